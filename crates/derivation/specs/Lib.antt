@@ -1,0 +1,12 @@
+pub mod Blank
+pub mod Bounds
+pub mod Calls
+pub mod JobView
+pub mod Jobs
+pub mod Joining
+pub mod Law
+pub mod Lines
+pub mod Moves
+pub mod Pile
+pub mod Steps
+pub mod Table

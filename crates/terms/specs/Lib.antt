@@ -1,0 +1,5 @@
+pub mod Faults
+pub mod Integers
+pub mod Limits
+pub mod Rows
+pub mod Stored

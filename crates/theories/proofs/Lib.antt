@@ -1,0 +1,3 @@
+pub mod EveryPair
+pub mod Laws
+pub mod Picked

@@ -1,0 +1,6 @@
+pub mod Bare
+pub mod Clues
+pub mod Meaning
+pub mod OneVat
+pub mod Pairs
+pub mod SharedResults
