@@ -27,7 +27,8 @@ use Rattle.terms.proofs.SmallLists.{within-near}
 use Rattle.theories.specs.Meaning.{Meaning}
 use Rattle.theories.specs.Pairs.{every}
 use Rattle.derivation.specs.Jobs.{Job, size}
-use Rattle.derivation.specs.Calls.{Line, Premise}
+use Rattle.derivation.specs.Calls.{Line}
+use Rattle.derivation.specs.declared.premise.Premise.{Premise}
 use Rattle.derivation.specs.Calls.Call.{cut, take, drop, pin}
 use Rattle.derivation.specs.Lines.{divides, floor, made, noRow, rowAt, summed, times}
 use Rattle.derivation.specs.Bounds.{allZero, point}

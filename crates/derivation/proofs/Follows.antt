@@ -24,7 +24,8 @@ use Rattle.terms.proofs.Integers.{times-le}
 use Rattle.terms.proofs.Passed.{clash, unless-passed}
 use Rattle.theories.specs.Meaning.{IfAny, Lawful, Meaning, Rule}
 use Rattle.derivation.specs.Jobs.{Job, Model, size}
-use Rattle.derivation.specs.Calls.{Line, Premise}
+use Rattle.derivation.specs.Calls.{Line}
+use Rattle.derivation.specs.declared.premise.Premise.{Premise}
 use Rattle.derivation.specs.Lines.{between, cutChecks, divides, divisionCheck, divisorCheck, floor, lastMade, lineChecks, linesChecks, made, rowAt, summed, times}
 use Rattle.derivation.specs.Bounds.{atMost, bound, empty, shownAt, standsFor}
 use Rattle.derivation.specs.Steps.{ruleChecks, ruleRow}

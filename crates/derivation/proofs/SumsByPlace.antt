@@ -11,7 +11,7 @@ use Rattle.std.proofs.shelf.Lists.{length-map}
 use Rattle.std.proofs.shelf.Signed.{ints}
 use Rattle.terms.specs.Rows.{Row}
 use Rattle.terms.proofs.ByPlace.{at-plus, length-plus}
-use Rattle.derivation.specs.Calls.{Premise}
+use Rattle.derivation.specs.declared.premise.Premise.{Premise}
 use Rattle.derivation.specs.Lines.{noRow, rowAt, summed, times}
 
 at-times : (k : ℤ) (cs : List ℤ) (i : ℕ) → getD (times k cs) i (pos 0) ≡ k *ℤ getD cs i (pos 0)

@@ -2,11 +2,7 @@
 use mathlib.Core.List.{List}
 use Prim.Native.Nat.{ℕ}
 use Rattle.terms.specs.Rows.{Plan, Row}
-
--- a row of the table, so many times
-pub record Premise : Type 0 where
-  pub place : ℕ
-  pub multiplier : ℕ
+use Rattle.derivation.specs.declared.premise.Premise.{Premise}
 
 -- premises that are summed, and what the sum is divided by
 pub record Line : Type 0 where

@@ -8,5 +8,16 @@ pub mod Law
 pub mod Lines
 pub mod Moves
 pub mod Pile
+pub mod Pinned
+pub mod Planned
+pub mod ProofView
+pub mod RuleView
+pub mod Spelt
+pub mod Stacked
+pub mod StateView
+pub mod StepView
 pub mod Steps
+pub mod Sums
 pub mod Table
+pub mod TableView
+pub mod VerdictView

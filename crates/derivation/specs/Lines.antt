@@ -14,7 +14,8 @@ use Rattle.terms.specs.Faults.{firstOf, firstUnless, unless}
 use Rattle.terms.specs.Integers.{eqZ}
 use Rattle.terms.specs.Limits.{million, rightLimit, within}
 use Rattle.terms.specs.Rows.{Row, plus}
-use Rattle.derivation.specs.Calls.{Line, Premise}
+use Rattle.derivation.specs.Calls.{Line}
+use Rattle.derivation.specs.declared.premise.Premise.{Premise}
 
 -- no coefficients, and 0 on the right: every plan meets it
 abbrev pub noRow : Row

@@ -25,7 +25,8 @@ use Rattle.files.specs.declared.records.Kind.{Kind}
 use Rattle.files.specs.declared.records.Kind.the-variants.{Bare, Shared, OneVat, Variable, Row, Call as CallRecord, Batch as BatchRecord, End}
 use Rattle.files.specs.declared.records.Phase.{Phase}
 use Rattle.files.specs.Bodies.{bodyRead}
-use Rattle.files.specs.Bytes.{byteRead, ends, int32Read, int64Read, nat16, nat16Read, nat32, nat32Read, nat64, numberRead}
+use Rattle.terms.specs.Bytes.{nat16, nat32, nat64}
+use Rattle.files.specs.Bytes.{byteRead, ends, int32Read, int64Read, nat16Read, nat32Read, numberRead}
 use Rattle.files.specs.JobFiles.{Reading, TheoryParts, accepted, bare, batchOf, batchRead, callOf, callRead, fieldsRead, oneVat, recordRead, rowRead, shared, stepped, variableRead}
 use Rattle.files.specs.Rest.{andThen}
 use Rattle.files.specs.Spelt.{inFront, mapFault, numberThen, numbersRead, odd, oneRead, spread}

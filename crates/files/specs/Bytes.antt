@@ -1,7 +1,7 @@
--- Numbers as bytes: little-endian, two's complement where signed.
+-- Numbers at the front of a file, two's complement where signed, and what follows them.
 use mathlib.Core.Bool.{cond}
-use mathlib.Core.List.{List, [], _∷_}
-use Prim.Native.Nat.{ℕ, _+_, _*_}
+use mathlib.Core.List.{List}
+use Prim.Native.Nat.{ℕ}
 use lib.Dec.{ltb}
 use lib.IntN.{ℤ}
 use lib.ListN.{drop, getD, length}
@@ -11,21 +11,12 @@ use Rattle.std.specs.declared.result.Result.{Result}
 use Rattle.std.specs.declared.result.Result.the-variants.{Ok, Err}
 use Rattle.terms.specs.declared.fault.Cause.the-variants.{FileEnds}
 use Rattle.terms.specs.declared.fault.Fault.{Fault}
+use Rattle.terms.specs.Bytes.{nat16, nat32, nat64}
 use Rattle.terms.specs.Faults.{fault}
 
 -- the file ends in a record or before its end
 abbrev pub ends : Fault
 ends = fault FileEnds 0
-
--- the number of the first bytes
-abbrev pub nat16 : List ℕ → ℕ
-nat16 bs = getD bs 0 0 + getD bs 1 0 * 256
-
-abbrev pub nat32 : List ℕ → ℕ
-nat32 bs = getD bs 0 0 + getD bs 1 0 * 256 + getD bs 2 0 * 65536 + getD bs 3 0 * 16777216
-
-abbrev pub nat64 : List ℕ → ℕ
-nat64 bs = getD bs 0 0 + getD bs 1 0 * 256 + getD bs 2 0 * 65536 + getD bs 3 0 * 16777216 + getD bs 4 0 * 4294967296 + getD bs 5 0 * 1099511627776 + getD bs 6 0 * 281474976710656 + getD bs 7 0 * 72057594037927936
 
 -- a number of k bytes, and what follows it
 abbrev pub numberRead : {X : Type 0} → ℕ → (List ℕ → X) → List ℕ → Result (X × List ℕ) Fault

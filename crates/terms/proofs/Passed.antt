@@ -55,6 +55,12 @@ stop-list [] cs f e = clash (cc)
 stop-list (None ∷ bs) cs f e = stop-list bs cs f e
 stop-list (Some g ∷ bs) cs f e = e
 
+-- where two lists of checks passed, the second did
+pub rest-passed : (bs cs : List (Option Fault)) → firstOf (bs ++ cs) ≡ None → firstOf cs ≡ None
+rest-passed [] cs e = e
+rest-passed (None ∷ bs) cs e = rest-passed bs cs e
+rest-passed (Some f ∷ bs) cs e = clash (cc)
+
 -- where all passed, the first did, and the others
 pub parts-passed : (o : Option Fault) (cs : List (Option Fault)) → firstOf (o ∷ cs) ≡ None → (o ≡ None) × (firstOf cs ≡ None)
 parts-passed None cs e = (refl, e)

@@ -16,7 +16,8 @@ use Rattle.theories.specs.Clues.{twoBytes}
 use Rattle.theories.specs.Meaning.{Meaning, onBytes}
 use Rattle.theories.specs.OneVat.{oneVat}
 use Rattle.derivation.specs.Jobs.{Job}
-use Rattle.derivation.specs.Calls.{Call, Premise}
+use Rattle.derivation.specs.Calls.{Call}
+use Rattle.derivation.specs.declared.premise.Premise.{Premise}
 use Rattle.derivation.specs.Calls.Call.{branch, cut, infer, cutoff, take, drop, pin}
 use Rattle.derivation.specs.Pile.{Moment, Subproblem, Verdict, opened, refusal, step, verdict}
 use Rattle.derivation.specs.Pile.Verdict.{least, none, unfinished}

@@ -3,7 +3,7 @@ use borrow.Author.Needs.{needs}
 use mir.Syntax.{w32}
 use mir.Val.{SFits, ofZ, toZ}
 use Rattle.std.proofs.shelf.Signed.{toZ-ofZ}
-use Rattle.files.specs.Bytes.{nat32}
+use Rattle.terms.specs.Bytes.{nat32}
 use Rattle.files.proofs.NumberRead.{number-as}
 use Rattle.files.proofs.bytes.read_i32.Needs as need
 

@@ -3,7 +3,7 @@ use borrow.Author.Needs.{needs}
 use mir.Syntax.{w64}
 use mir.Val.{SFits, ofZ, toZ}
 use Rattle.std.proofs.shelf.Signed.{toZ-ofZ}
-use Rattle.files.specs.Bytes.{nat64}
+use Rattle.terms.specs.Bytes.{nat64}
 use Rattle.files.proofs.NumberRead.{number-as}
 use Rattle.files.proofs.bytes.read_i64.Needs as need
 

@@ -1,5 +1,5 @@
 use borrow.Author.Needs.{needs}
-use Rattle.files.specs.Bytes.{nat16}
+use Rattle.terms.specs.Bytes.{nat16}
 use Rattle.files.proofs.NumberRead.{number-as}
 use Rattle.files.proofs.bytes.read_u16.Needs as need
 
