@@ -52,11 +52,9 @@ pub trait Theory {
 }
 
 // That the law holds of every theory's clues as they stand in files.
-pub fn law_on_bytes<T: Theory>(theory: &T) -> u8
+pub fn law_on_bytes<T: Theory>(theory: &T)
     ensures { λ _. ⌜ Lawful (onBytes (T·Theory .reads) (T·Theory .means (now (theory .entry)))) ⌝ }
-{
-    0
-}
+{}
 
 // The refusal where there is no rule, or no such premise.
 pub fn no_rule() -> Fault

@@ -2,8 +2,6 @@
 ghost use Rattle.weeks.specs.Weeks.{Weeks-known};
 
 // Each answers and ends as written, or is admitted or not.
-pub fn weeks_go_as_known() -> u8
+pub fn weeks_go_as_known()
     ensures { λ _. ⌜ Weeks-known ⌝ }
-{
-    0
-}
+{}
