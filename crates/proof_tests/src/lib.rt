@@ -15,4 +15,4 @@ mod refused_steps;
 mod solved_jobs;
 #[cfg(test)]
 mod steps_as_values;
-pub mod used_up;
+mod used_up;

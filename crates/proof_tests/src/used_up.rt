@@ -6,7 +6,7 @@ use theories::bare::Bare;
 use theories::bare::BareTheory;
 
 // The verdict on a job of one row that no plan meets.
-pub fn open_and_close() -> Result<Verdict, Fault> {
+fn open_and_close() -> Result<Verdict, Fault> {
     let mut job = Job::new();
     job.row(&[], 'L', -1)?;
     let mut proof = job.open(Bare);
