@@ -1,10 +1,10 @@
 -- Rows that read 0 from a place on: one variable more, one row more.
-use Rattle.std.proofs.Common.{◌≡◌, ℕ, zero, suc, ◌+◌, ◌-◌, ◌<◌, ◌≤◌, Bool, true, false, ◌&&◌, List, [], ◌∷◌, ◌++◌, map, length, get_or, take, drop, set, replicate, ℤ, pos, neg_ℤ, sym, refl, ap, ◌∙◌, ap₂, arith}
+use Rattle.std.proofs.Common.{◌≡◌, ℕ, zero, suc, ◌+◌, ◌-◌, ◌<◌, true, List, [], ◌∷◌, ◌++◌, map, length, get_or, take, drop, set, replicate, ℤ, pos, neg_ℤ, sym, refl, ap, ◌∙◌, ap₂, arith}
 use Rattle.std.proofs.lemmas.List.{drop_more, take_more}
 use Rattle.std.proofs.lemmas.Bool.{and_parts, and_from}
 use Rattle.terms.specs.declared.row.Row.{Row as Stored}
 use Rattle.terms.specs.Integers.{eq_z}
-use Rattle.terms.specs.Rows.{Row, negated}
+use Rattle.terms.specs.Rows.{negated}
 use Rattle.terms.specs.Stored.{padded, row_of}
 use Rattle.terms.proofs.Integers.{eq_z_true}
 use Rattle.theories.specs.Pairs.{every}

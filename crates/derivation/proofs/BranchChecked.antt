@@ -1,8 +1,8 @@
 -- The checks of a branch, part by part.
-use Rattle.std.proofs.Common.{◌≡◌, ℕ, ◌+◌, ◌<◌, ◌≤◌, Bool, true, false, ◌&&◌, eqb, ltb, leb, List, [], ◌∷◌, ◌++◌, map, length, ℤ, pos, ◌-ℤ◌, neg_ℤ, nat_abs, ◌<ℤ◌, Some, None, Option, sym, refl, ap, ◌∙◌, ap₂, arith}
+use Rattle.std.proofs.Common.{◌≡◌, ℕ, ◌+◌, ◌<◌, ◌≤◌, Bool, true, false, ◌&&◌, eqb, leb, List, [], ◌∷◌, ◌++◌, map, length, ℤ, pos, ◌-ℤ◌, neg_ℤ, nat_abs, Some, None, Option, sym, refl, ap, ◌∙◌, arith}
 use lib.Signed.{le_z, lt_z}
 use Rattle.std.proofs.lemmas.Int.{ints}
-use Rattle.std.proofs.lemmas.Bool.{and_from, and_left, and_parts, and_right, cases_Bool, eqb-true, le-leb, leb-true}
+use Rattle.std.proofs.lemmas.Bool.{and_left, and_parts, eqb-true, le-leb, leb-true}
 use Rattle.terms.specs.declared.fault.Cause.{Cause}
 use Rattle.terms.specs.declared.fault.Cause.TheVariants.{Full, OutOfRange, WrongLength}
 use Rattle.terms.specs.declared.fault.Fault.{Fault}
@@ -10,7 +10,7 @@ use Rattle.terms.specs.Faults.{first_fault, first_unless, unless}
 use Rattle.terms.specs.Limits.{million, right_limit, row_limits, within}
 use Rattle.terms.specs.Rows.{Row}
 use Rattle.terms.proofs.Integers.{within_from}
-use Rattle.terms.proofs.Passed.{clash, parts_passed, pass_list, pass_one, stop_list, unless_passed}
+use Rattle.terms.proofs.Passed.{parts_passed, pass_list, pass_one, stop_list, unless_passed}
 use Rattle.terms.proofs.SmallLists.{within_near}
 use Rattle.law.specs.Lines.{room_check}
 use Rattle.law.specs.Steps.{branch_checks}

@@ -1,5 +1,5 @@
 -- The checks of a chain, one after another, by the number of its lines.
-use Rattle.std.proofs.Common.{◌≡◌, ℕ, ◌+◌, ◌<◌, ◌≤◌, leb, List, ◌∷◌, map, length, get_or, take, pos, Some, None, sym, ap, ◌∙◌, ap₂, arith}
+use Rattle.std.proofs.Common.{◌≡◌, ℕ, ◌+◌, ◌<◌, ◌≤◌, leb, List, ◌∷◌, length, get_or, take, pos, Some, None, sym, ap, ◌∙◌, ap₂}
 use Rattle.std.proofs.lemmas.List.{get_or-take, take-map, take-take}
 use Rattle.std.proofs.lemmas.Bool.{and_parts, leb-true}
 use Rattle.terms.specs.declared.fault.Cause.TheVariants.{Full, WrongLength}

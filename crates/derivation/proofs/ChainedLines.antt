@@ -8,7 +8,7 @@ use Rattle.terms.specs.Rows.{Row}
 use Rattle.terms.specs.Stored.{row_of}
 use Rattle.terms.proofs.Passed.{pass_list, pass_one, stop_one}
 use Rattle.law.specs.Calls.{Line}
-use Rattle.law.specs.Lines.{in_line, last_made, line_checks, lines_checks, made, made_checks, no_row, number_checks}
+use Rattle.law.specs.Lines.{in_line, last_made, line_checks, lines_checks, made_checks, no_row, number_checks}
 use Rattle.law.specs.Spelt.{line_in, lines_from}
 use Rattle.law.proofs.PremisesRead.{lines_long, lines_split}
 use Rattle.derivation.proofs.RowsAdded.{rows_pushed}

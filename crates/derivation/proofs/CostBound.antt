@@ -1,5 +1,5 @@
 -- The cost of a plan of small numbers is small.
-use Rattle.std.proofs.Common.{◌≡◌, ℕ, zero, suc, ◌*◌, ◌≤◌, List, [], ◌∷◌, length, ℤ, pos, ◌*ℤ◌, nat_abs, arith}
+use Rattle.std.proofs.Common.{suc, ◌*◌, ◌≤◌, List, [], ◌∷◌, length, ℤ, ◌*ℤ◌, nat_abs, arith}
 use Rattle.std.proofs.lemmas.Int.{ints}
 use Rattle.terms.specs.Rows.{dot}
 use Rattle.terms.proofs.Integers.{product_near}

@@ -1,8 +1,8 @@
 -- A row more, at the end of a job.
-use Rattle.std.proofs.Common.{◌≡◌, ℕ, ◌+◌, ◌<◌, ◌≤◌, List, [], ◌∷◌, ◌++◌, map, length, take, set, ℤ, neg_ℤ, sym, refl, ap, ◌∙◌, ap₂, arith}
-use Rattle.std.proofs.lemmas.List.{append_assoc, length-map, length-take-le, map-append, take_at, take-map, take_more_set}
+use Rattle.std.proofs.Common.{◌≡◌, ℕ, ◌+◌, ◌<◌, ◌≤◌, List, [], ◌∷◌, ◌++◌, map, length, take, set, ℤ, neg_ℤ, ap, ◌∙◌}
+use Rattle.std.proofs.lemmas.List.{length-map, length-take-le, map-append, take_at, take-map, take_more_set}
 use Rattle.terms.specs.declared.row.Row.{Row as Stored}
-use Rattle.terms.specs.Rows.{Row, negated, turned}
+use Rattle.terms.specs.Rows.{Row, turned}
 use Rattle.terms.specs.Stored.{padded, row_of, whole}
 
 -- the front of an array of rows, one more written after it

@@ -1,5 +1,5 @@
 -- Waiting heights as rows join the table and leave it.
-use Rattle.std.proofs.Common.{◌≡◌, ℕ, zero, suc, ◌+◌, ◌-◌, ◌<◌, ◌≤◌, Bool, true, false, ◌&&◌, ltb, leb, ◌≢◌, List, [], ◌∷◌, ◌++◌, map, reverse, length, get_or, take, set, ℤ, pos, sym, refl, ap, ◌∙◌, ap₂, arith, get_or-set_other}
+use Rattle.std.proofs.Common.{◌≡◌, ℕ, ◌+◌, ◌-◌, ◌<◌, ◌≤◌, Bool, true, ◌&&◌, ltb, ◌≢◌, List, [], ◌∷◌, map, reverse, length, get_or, take, set, ℤ, pos, sym, ap, ◌∙◌, arith, get_or-set_other}
 use lib.Signed.{lt_z}
 use Rattle.std.proofs.lemmas.List.{map-set, reverse-append, take_more, take_more_set, take-set-le}
 use Rattle.std.proofs.lemmas.Bool.{and_from, and_parts, le-leb, leb-true, lt-ltb, ltb-true}

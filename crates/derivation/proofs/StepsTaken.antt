@@ -1,5 +1,5 @@
 -- What a stored proof answers and leaves, and what the call of the pile does.
-use Rattle.std.proofs.Common.{◌≡◌, ℕ, ◌+◌, ◌≤◌, Bool, true, false, ltb, leb, List, [], ◌∷◌, ◌++◌, map, length, take, Some, None, Ok, Err, Option, Result, sym, refl, ap, ◌∙◌, subst, ap₂, arith}
+use Rattle.std.proofs.Common.{◌≡◌, ℕ, ◌+◌, ◌≤◌, true, false, ltb, leb, List, [], ◌∷◌, ◌++◌, length, take, Some, None, Ok, Err, Option, Result, sym, refl, ap, ◌∙◌, subst, ap₂, arith}
 use Rattle.terms.specs.declared.fault.Cause.TheVariants.{Full, NothingOpen, WrongLength}
 use Rattle.terms.specs.declared.fault.Fault.{Fault}
 use Rattle.terms.specs.Faults.{changed, fault, first_fault, unless}
@@ -17,7 +17,7 @@ use Rattle.law.specs.Pile.{Moment, called, moment, moved, refusal, table_checks}
 use Rattle.derivation.specs.Stacked.{rights_of}
 use Rattle.terms.specs.declared.row.Coefficients.{Coefficients}
 use Rattle.terms.specs.Rows.{Plan, Row}
-use Rattle.law.specs.Table.{Falling, Holding, Orderly, done, joined, pile_of, shut, view, waiting, worked}
+use Rattle.law.specs.Table.{Falling, Holding, Orderly, done, joined, pile_of, shut, view}
 use Rattle.law.proofs.Tables.{worked_as_called}
 use Rattle.derivation.specs.StateView.{holding_of, job_in, moment_of, plan_of}
 use Rattle.derivation.specs.TableView.{Fixed, Held, fixed_of, held_of, shut_by}

@@ -1,5 +1,5 @@
 -- A table whose current subproblem is shut: the newest height leaves, and its subproblem becomes the table.
-use Rattle.std.proofs.Common.{◌≡◌, ℕ, ◌+◌, ◌-◌, ◌<◌, ◌≤◌, Bool, true, false, cond, List, [], ◌∷◌, ◌++◌, map, reverse, length, get_or, take, set, ℤ, pos, ◌-ℤ◌, neg_ℤ, nat_abs, Some, None, Option, sym, refl, ap, ◌∙◌, ap₂, arith}
+use Rattle.std.proofs.Common.{◌≡◌, ℕ, ◌+◌, ◌-◌, ◌<◌, ◌≤◌, true, cond, List, [], ◌∷◌, ◌++◌, map, reverse, length, get_or, take, set, pos, ◌-ℤ◌, neg_ℤ, Some, None, Option, sym, ap, ◌∙◌, ap₂, arith}
 use lib.Signed.{lt_z}
 use Rattle.std.proofs.lemmas.List.{get_or-map, get_or-take, length-take-le, take-map, take-take}
 use Rattle.std.proofs.lemmas.Int.{ints}

@@ -1,5 +1,5 @@
 -- What a stored proof stands for: its job, and the moment that its table, heights, mark and plan taken make.
-use Rattle.std.specs.Prelude.{ℕ, List, take, Some, None, Option}
+use Rattle.std.specs.Prelude.{ℕ, take, Some, None, Option}
 use Rattle.terms.specs.declared.row.Coefficients.{Coefficients}
 use Rattle.terms.specs.Rows.{Plan}
 use Rattle.law.specs.Jobs.{Job}

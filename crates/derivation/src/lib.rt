@@ -1,4 +1,6 @@
 // Jobs, proofs, their steps and their verdicts.
+#![tactic(auto)]
+
 pub mod asking;
 pub mod bounding;
 pub mod branching;

@@ -1,5 +1,5 @@
 -- What a reading leaves of its bytes is shorter.
-use Rattle.std.proofs.Common.{ℕ, zero, suc, ◌+◌, ◌-◌, ◌/◌, ◌≤◌, Bool, true, false, cond, ltb, List, length, drop, ℤ, Some, None, Ok, Err, Option, Result, arith, length-drop, w32, w64, to_z}
+use Rattle.std.proofs.Common.{ℕ, zero, suc, ◌+◌, ◌/◌, ◌≤◌, Bool, true, false, cond, ltb, List, length, drop, ℤ, Some, None, Ok, Err, Option, Result, arith, length-drop, w32, w64, to_z}
 use Rattle.terms.specs.declared.fault.Fault.{Fault}
 use Rattle.terms.specs.Faults.{otherwise}
 use Rattle.fields.specs.Bodies.{body_read}

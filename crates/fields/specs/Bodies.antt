@@ -1,5 +1,5 @@
 -- The body of a row: a map, a coefficient for each bit that is set, and a right side.
-use Rattle.std.specs.Prelude.{ℕ, List, ℤ, Result}
+use Rattle.std.specs.Prelude.{ℕ, List, Result}
 use Rattle.terms.specs.declared.fault.Fault.{Fault}
 use Rattle.terms.specs.Faults.{otherwise}
 use Rattle.fields.specs.declared.body.Body.{Body}

@@ -1,6 +1,8 @@
 // Reads job.bct in the current folder, checks it whole, and prints the job that it spells and what is known of it, or the refusal.
 // With the argument `check` it reads trace.bct as well, and prints what the trace shows of the job, or the first refusal.
 // With the argument `list` it prints the job that job.bct spells.
+#![tactic(auto)]
+
 mod input;
 mod listing;
 mod refusal;

@@ -1,9 +1,8 @@
 -- One record more of a job file, and its end.
-use Rattle.std.proofs.Common.{◌≡◌, ℕ, zero, suc, ◌+◌, ◌-◌, ◌<◌, ◌≤◌, Bool, true, false, cond, leb, List, length, None, Ok, Err, Result, sym, refl, ap, ◌∙◌, ap₂, arith}
+use Rattle.std.proofs.Common.{◌≡◌, ℕ, zero, suc, ◌+◌, ◌-◌, ◌<◌, true, false, cond, leb, List, length, None, Ok, Err, Result, sym, refl, ap, ◌∙◌, arith}
 use Rattle.terms.specs.declared.fault.Cause.TheVariants.{FileTooLong}
 use Rattle.terms.specs.declared.fault.Fault.{Fault}
 use Rattle.terms.specs.Faults.{answered, unless}
-use Rattle.terms.proofs.Passed.{clash}
 use Rattle.files.specs.declared.fault.File.TheVariants.{Job as inJob}
 use Rattle.files.specs.declared.fault.FileFault.{FileFault}
 use Rattle.files.specs.JobFiles.{Reading, all_records, and_records, at_end, ended, job_and_parts, job_file, record_read, records_read, start}

@@ -1,5 +1,5 @@
 -- One record more of a file, and its end.
-use Rattle.std.proofs.Common.{◌≡◌, ℕ, zero, suc, ◌+◌, ◌-◌, ◌<◌, ◌≤◌, Bool, true, false, cond, leb, List, length, None, Ok, Err, Result, sym, refl, ap, ◌∙◌, ap₂, arith}
+use Rattle.std.proofs.Common.{◌≡◌, ℕ, zero, suc, ◌+◌, ◌-◌, ◌<◌, true, false, cond, leb, List, length, None, Ok, Err, Result, sym, refl, ap, ◌∙◌, arith}
 use Rattle.terms.specs.declared.fault.Cause.TheVariants.{FileTooLong}
 use Rattle.terms.specs.declared.fault.Fault.{Fault}
 use Rattle.terms.specs.Faults.{answered, unless}

@@ -1,5 +1,5 @@
 -- What a record leaves of a file is shorter.
-use Rattle.std.proofs.Common.{◌≡◌, ℕ, ◌+◌, ◌-◌, ◌<◌, ◌≤◌, List, [], ◌∷◌, length, get_or, take, Ok, Result, sym, subst, arith, w32, to_z}
+use Rattle.std.proofs.Common.{◌≡◌, ℕ, ◌+◌, ◌<◌, ◌≤◌, List, [], ◌∷◌, length, get_or, take, Ok, Result, sym, subst, arith, w32, to_z}
 use Rattle.terms.specs.declared.fault.Fault.{Fault}
 use Rattle.terms.proofs.Passed.{clash}
 use Rattle.theories.specs.declared.parts.Batch.{Batch}

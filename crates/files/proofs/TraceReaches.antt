@@ -7,12 +7,12 @@ use Rattle.terms.proofs.Passed.{clash}
 use Rattle.theories.specs.Meaning.{Meaning}
 use Rattle.law.specs.Calls.{Call}
 use Rattle.law.specs.Jobs.{Job, size}
-use Rattle.law.specs.Pile.{Moment, after, called, opened, step}
+use Rattle.law.specs.Pile.{Moment, after, called, step}
 use Rattle.files.specs.declared.fault.File.TheVariants.{Trace as inTrace}
 use Rattle.files.specs.declared.fault.FileFault.{FileFault}
 use Rattle.files.specs.JobFiles.{accepted}
 use Rattle.files.specs.Places.{placed, then_file}
-use Rattle.files.specs.Records.{Way, all_records, and_records, at_end, file_read, records_read}
+use Rattle.files.specs.Records.{all_records, and_records, at_end, file_read, records_read}
 use Rattle.fields.specs.Rest.{and_then}
 use Rattle.files.specs.TraceFiles.{Following, following, moment_in, record_done, step_done, trace_file, trace_way}
 use Rattle.spelling.specs.StepsRead.{step_read}

@@ -1,5 +1,5 @@
 -- The job file: a theory's letter, variables, rows, the theory's parts, and the end.
-use Rattle.std.specs.Prelude.{ℕ, zero, suc, ◌+◌, ◌-◌, Bool, true, false, cond, List, [], ◌∷◌, length, take, Ok, Err, Result, ◌==◌, nat_le, slice_index}
+use Rattle.std.specs.Prelude.{ℕ, zero, suc, ◌+◌, ◌-◌, Bool, true, false, cond, List, [], length, take, Ok, Err, Result, ◌==◌, nat_le, slice_index}
 use Rattle.terms.specs.declared.fault.Cause.TheVariants.{FileTooLong, TrailingBytes}
 use Rattle.terms.specs.declared.fault.Fault.{Fault}
 use Rattle.terms.specs.Faults.{answered, otherwise, unless}

@@ -1,4 +1,6 @@
 // Job and trace files.
+#![tactic(auto)]
+
 pub mod fault;
 pub mod job_file;
 pub mod job_records;

@@ -1,4 +1,6 @@
 // Tests by example: jobs, theories and job files, and each refusal that they can answer.
+#![tactic(auto)]
+
 #[cfg(test)]
 mod bytes_at_a_fault;
 #[cfg(test)]

@@ -1,4 +1,6 @@
 // What a job and a derivation over it are, and the law of derivations.
+#![tactic(auto)]
+
 pub mod law;
 pub mod lists;
 pub mod numbers;

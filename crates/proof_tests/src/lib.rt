@@ -1,4 +1,6 @@
 // Tests by example: the steps of a proof, each refusal that they can answer, and what closing says.
+#![tactic(auto)]
+
 #[cfg(test)]
 mod depths;
 #[cfg(test)]

@@ -1,5 +1,5 @@
 -- Reading undoes writing, and each step has one spelling.
-use Rattle.std.specs.Prelude.{◌≡◌, ℕ, ◌<◌, ◌≤◌, true, List, [], ◌∷◌, ◌++◌, ℤ, pos, Some, None, Ok, Option, FitsSigned, slice_index}
+use Rattle.std.specs.Prelude.{◌≡◌, ℕ, ◌<◌, ◌≤◌, true, List, [], ◌∷◌, ◌++◌, ℤ, Some, None, Ok, Option, FitsSigned, slice_index}
 use Rattle.std.specs.Int.{w32, w64}
 use Rattle.law.specs.declared.premise.Premise.{Premise}
 use Rattle.law.specs.Calls.{Call, Line}

@@ -1,5 +1,5 @@
 -- The records of a trace file: a step, or the end.
-use Rattle.std.specs.Prelude.{ℕ, zero, suc, ◌*◌, min, cond, List, [], ◌∷◌, length, take as firsts, drop, ℤ, Some, None, Ok, Err, Option, Result, ◌==◌, nat_lt}
+use Rattle.std.specs.Prelude.{ℕ, zero, suc, ◌*◌, min, cond, List, length, take as firsts, drop, ℤ, Some, None, Ok, Err, Option, Result, ◌==◌, nat_lt}
 use Rattle.terms.specs.declared.fault.Fault.{Fault}
 use Rattle.terms.specs.Faults.{otherwise}
 use Rattle.law.specs.Calls.{Call, Line}

@@ -1,8 +1,8 @@
 -- What it says of a check that it passed, and of a list of checks.
-use Rattle.std.proofs.Common.{◌≡◌, ℕ, Bool, true, false, List, [], ◌∷◌, ◌++◌, Some, None, Ok, Err, Option, Result, sym, refl, ap, ◌∙◌, subst, arith, MatchResult}
+use Rattle.std.proofs.Common.{◌≡◌, ℕ, Bool, true, false, List, [], ◌∷◌, ◌++◌, Some, None, Ok, Err, Option, Result, sym, refl, ap, subst, arith, MatchResult}
 use Rattle.terms.specs.declared.fault.Cause.{Cause}
 use Rattle.terms.specs.declared.fault.Fault.{Fault}
-use Rattle.terms.specs.Faults.{answered, first_fault, otherwise, shown, unless}
+use Rattle.terms.specs.Faults.{first_fault, otherwise, unless}
 
 pub clash : {X : Type 0} → ◌≡◌ {A = ℕ} 0 1 → X
 clash e = absurd (omega arith)

@@ -1,6 +1,5 @@
 -- Lists whose numbers are within 1,000,000 of zero.
-use Rattle.std.proofs.Common.{◌≡◌, ℕ, zero, suc, ◌+◌, ◌-◌, ◌<◌, ◌≤◌, Bool, true, false, ◌&&◌, List, [], ◌∷◌, ◌++◌, map, length, get_or, drop, replicate, ℤ, pos, negsuc, neg_ℤ, nat_abs, ◌≤ℤ◌, Some, None, Option, sym, refl, ap, ◌∙◌, ⊎_elim, arith}
-use mathlib.Core.Path.{subst⁻¹}
+use Rattle.std.proofs.Common.{◌≡◌, ℕ, zero, suc, ◌+◌, ◌-◌, ◌≤◌, Bool, true, false, List, [], ◌∷◌, ◌++◌, map, length, get_or, drop, replicate, ℤ, pos, neg_ℤ, nat_abs, None, refl, ap, ◌∙◌, arith}
 use lib.Signed.{le_z}
 use borrow.Rule.Slice.PartMut.{post_of}
 use Rattle.std.proofs.lemmas.List.{drop-replicate, length-append, length-replicate}
@@ -8,7 +7,7 @@ use Rattle.std.proofs.lemmas.Int.{ints}
 use Rattle.std.proofs.lemmas.Bool.{and_parts}
 use Rattle.terms.specs.declared.fault.Cause.{Cause}
 use Rattle.terms.specs.Faults.{first_unless}
-use Rattle.terms.specs.Limits.{million, right_limit, within}
+use Rattle.terms.specs.Limits.{million, within}
 use Rattle.terms.specs.Rows.{negated}
 use Rattle.terms.specs.Stored.{padded}
 

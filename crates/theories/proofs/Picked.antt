@@ -1,5 +1,5 @@
 -- Two parts picked from the front of an array.
-use Rattle.std.proofs.Common.{◌≡◌, ℕ, ◌<◌, Bool, true, cond, List, get_or, take, Some, None, Option, sym, ap, ◌∙◌, ap₂}
+use Rattle.std.proofs.Common.{◌≡◌, ℕ, ◌<◌, Bool, true, List, get_or, take, Some, Option, sym, ◌∙◌, ap₂}
 use Rattle.std.proofs.lemmas.List.{get_or-take}
 use Rattle.std.proofs.lemmas.Bool.{cond-true}
 use Rattle.theories.specs.Meaning.{picked}

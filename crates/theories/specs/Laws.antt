@@ -1,13 +1,11 @@
 -- The theories keep the law.
-use Rattle.std.specs.Prelude.{◌≡◌, ℕ, zero, suc, ◌+◌, ◌<◌, ◌≤◌, Bool, true, false, not, ◌&&◌, ◌||◌, ◌⊎◌, List, [], ◌∷◌, map, length, get_or, ℤ, pos, negsuc, ◌+ℤ◌, ◌-ℤ◌, neg_ℤ, ◌≤ℤ◌, ◌==◌, ◌≢◌, nat_lt, slice_index_or, refl}
-use Rattle.std.proofs.Common.{sym, ap, ◌∙◌, inl, inr, ⊎_elim, arith}
-use Rattle.std.specs.Int.Signed.{le_z}
-use Rattle.std.specs.List.{AllByRecursion as All}
+use Rattle.std.specs.Prelude.{◌≡◌, ℕ, zero, suc, ◌<◌, ◌≤◌, Bool, true, false, not, ◌&&◌, ◌⊎◌, List, [], ◌∷◌, map, length, get_or, pos, ◌-ℤ◌, neg_ℤ, ◌==◌, ◌≢◌, nat_lt, slice_index_or, refl}
+use Rattle.std.proofs.Common.{sym, ap, inl, inr, ⊎_elim, arith}
 use Rattle.std.proofs.lemmas.Int.{ints}
-use Rattle.std.proofs.lemmas.Bool.{and_parts, or_cases, ltb-true, eqb-true, eqb-false, not-true, both_ways, and_from, eq-eqb, cases_order, cases_eq}
+use Rattle.std.proofs.lemmas.Bool.{and_parts, or_cases, ltb-true, eqb-true, eqb-false, not-true, both_ways, and_from, eq-eqb, cases_order}
 use Rattle.terms.specs.Integers.{eq_z}
 use Rattle.terms.specs.Limits.{right_limit}
-use Rattle.terms.specs.Rows.{Holds, Plan, reads}
+use Rattle.terms.specs.Rows.{Plan, reads}
 use Rattle.terms.proofs.Integers.{eq_z_true, eq_z_same, within_from}
 use Rattle.theories.specs.declared.parts.Batch.{Batch}
 use Rattle.theories.specs.declared.parts.Call.{Call}

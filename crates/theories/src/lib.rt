@@ -1,4 +1,6 @@
 // Theories: which plans are admitted, and which rules hold between differences.
+#![tactic(auto)]
+
 pub mod bare;
 pub mod one_vat;
 pub mod pairs;

@@ -1,4 +1,6 @@
 // Tests by example: the reader and the writer of steps. Pairs of whole files are in pairs/.
+#![tactic(auto)]
+
 #[cfg(test)]
 mod read_back;
 #[cfg(test)]

@@ -1,5 +1,5 @@
 -- What the writer answers, by its two checks.
-use Rattle.std.proofs.Common.{◌≡◌, ℕ, ◌≤◌, Bool, true, false, ◌&&◌, T, eqb, leb, List, [], ◌∷◌, length, Ok, Err, Result, sym, refl, ap, ◌∙◌, subst, ap₂, arith, eqb→eq, leb→le}
+use Rattle.std.proofs.Common.{◌≡◌, ℕ, ◌≤◌, Bool, true, false, ◌&&◌, T, eqb, leb, List, [], ◌∷◌, length, Ok, Err, Result, sym, refl, ap, ◌∙◌, subst, ap₂, eqb→eq, leb→le}
 use Rattle.terms.specs.declared.fault.Cause.{Cause}
 use Rattle.terms.specs.declared.fault.Cause.TheVariants.{BufferTooShort, WrongLength}
 use Rattle.terms.specs.declared.fault.Fault.{Fault}

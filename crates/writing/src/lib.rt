@@ -1,3 +1,5 @@
 // The writer of trace records.
+#![tactic(auto)]
+
 mod laying;
 pub mod step_writer;

@@ -11,31 +11,31 @@ loop-k-init c =
     let ls = c.args.lines in
     chaining_none c.args.n c.args.count.now c.args.rows.now (lines_of ls) c.zeros-last.result c.told-rows (omega (arith, lines_long ls.count ls.bytes.now, c.requires.some))
 
-pub add-line-requires : goal.add-line-requires
-add-line-requires c =
+pub add_line-requires : goal.add_line-requires
+add_line-requires c =
     let ls = c.args.lines in let left = c.loop-k.rest in
     let there = line_left c.args.n c.args.count.now c.loop-k.k c.args.rows.now c.loop-k.rows c.loop-k.guard.count.now ls.count ls.bytes.now left.count left.bytes.now c.loop-k.last c.loop-k.invariant c.loop-k-test.true in
     record { room = omega (arith, there.1, c.requires.room); narrow = c.requires.narrow }
 
-pub overflow-add-guard : goal.overflow-add-guard
-overflow-add-guard c =
+pub overflow_add-guard : goal.overflow_add-guard
+overflow_add-guard c =
     let ls = c.args.lines in let left = c.loop-k.rest in
     let there = line_left c.args.n c.args.count.now c.loop-k.k c.args.rows.now c.loop-k.rows c.loop-k.guard.count.now ls.count ls.bytes.now left.count left.bytes.now c.loop-k.last c.loop-k.invariant c.loop-k-test.true in
     omega (arith, there.1, c.requires.room)
 
-pub returns-in-err-last : goal.returns-in-err-last
-returns-in-err-last c =
+pub returns-in_err-last : goal.returns-in_err-last
+returns-in_err-last c =
     let n = c.args.n in let saved = c.args.count.now in let k = c.loop-k.k in let before = c.args.rows.now in let rows = c.loop-k.rows in let height = c.loop-k.guard.count.now in
     let ls = c.args.lines in let left = c.loop-k.rest in
     let there = line_left n saved k before rows height ls.count ls.bytes.now left.count left.bytes.now c.loop-k.last c.loop-k.invariant c.loop-k-test.true in
     let is = there.0 ∙ ap (λ l. l ∷ drop 1 (lines_of left)) (sym c.first.ensures) in
-    let p = err_from_is_err_and c.from-residual.result c.from-residual.ensures.1 in
-    let o = c.in-err-last.ensures in
+    let p = err_from_is_err_and c.from_residual.result c.from_residual.ensures.1 in
+    let o = c.in_err-last.ensures in
     record {
       count = search rules;
-      front = chaining_front n saved k before rows height (lines_of ls) (lines_of left) c.loop-k.last c.loop-k.invariant (line_of c.first.result) (drop 1 (lines_of left)) is c.add-line.new.rows o.front;
-      long = c.add-line.array_long;
-      outcome = refused_case _ _ _ c.in-err-last.field-0.0 (p.1 ∙ ap Err p.2) (chaining_stopped n saved k before rows height (lines_of ls) (lines_of left) c.loop-k.last c.loop-k.invariant (line_of c.first.result) (drop 1 (lines_of left)) is _ o.outcome);
+      front = chaining_front n saved k before rows height (lines_of ls) (lines_of left) c.loop-k.last c.loop-k.invariant (line_of c.first.result) (drop 1 (lines_of left)) is c.add_line.new.rows o.front;
+      long = c.add_line.array_long;
+      outcome = refused_case _ _ _ c.in_err-last.field-0.0 (p.1 ∙ ap Err p.2) (chaining_stopped n saved k before rows height (lines_of ls) (lines_of left) c.loop-k.last c.loop-k.invariant (line_of c.first.result) (drop 1 (lines_of left)) is _ o.outcome);
     }
 
 pub loop-k-preserved : goal.loop-k-preserved
@@ -44,8 +44,8 @@ loop-k-preserved c =
     let ls = c.args.lines in let left = c.loop-k.rest in
     let there = line_left n saved k before rows height ls.count ls.bytes.now left.count left.bytes.now c.loop-k.last c.loop-k.invariant c.loop-k-test.true in
     let is = there.0 ∙ ap₂ ◌∷◌ (sym c.first.ensures) (sym c.rest-rest.ensures.lines) in
-    let o = c.in-ok-last.ensures in
-    chaining_more n saved k before rows height (lines_of ls) (lines_of left) c.loop-k.last c.loop-k.invariant (line_of c.first.result) (lines_of c.rest-rest.result) is c.add-line.new.rows c.in-ok-last.last c.add-line.array_long o.front o.outcome
+    let o = c.in_ok-last.ensures in
+    chaining_more n saved k before rows height (lines_of ls) (lines_of left) c.loop-k.last c.loop-k.invariant (line_of c.first.result) (lines_of c.rest-rest.result) is c.add_line.new.rows c.in_ok-last.last c.add_line.array_long o.front o.outcome
 
 pub returns : goal.returns
 returns c =

@@ -7,16 +7,16 @@ use Rattle.law.specs.Lines.{between}
 use Rattle.law.specs.Spelt.{premises_of}
 use Rattle.derivation.proofs.lines.check_multipliers.Goals as goal
 
-pub returns-then-not-is-between : goal.returns-then-not-is-between
-returns-then-not-is-between c =
+pub returns-then-not-is_between : goal.returns-then-not-is_between
+returns-then-not-is_between c =
     let ps = premises_of c.args.premises.now in let i = c.loop-i.i in
-    let fails = ap (λ (p : Premise). between 1 10000 p.multiplier) (sym c.get-premise.ensures) ∙ sym c.if-not-is-between.ensures in
+    let fails = ap (λ (p : Premise). between 1 10000 p.multiplier) (sym c.get-premise.ensures) ∙ sym c.if-not-is_between.ensures in
     ap answered (sym (first_stop (λ (p : Premise). between 1 10000 p.multiplier) _ OutOfRange ps i (omega (arith, c.len-i-end.ensures)) fails) ∙ c.loop-i.invariant)
 
 pub loop-i-preserved : goal.loop-i-preserved
 loop-i-preserved c =
     let ps = premises_of c.args.premises.now in let i = c.loop-i.i in
-    let passes = ap (λ (p : Premise). between 1 10000 p.multiplier) (sym c.get-premise.ensures) ∙ sym c.if-not-is-between.ensures in
+    let passes = ap (λ (p : Premise). between 1 10000 p.multiplier) (sym c.get-premise.ensures) ∙ sym c.if-not-is_between.ensures in
     sym (first_more (λ (p : Premise). between 1 10000 p.multiplier) _ OutOfRange ps i (omega (arith, c.len-i-end.ensures)) passes) ∙ c.loop-i.invariant
 
 pub returns : goal.returns

@@ -12,8 +12,8 @@ use Rattle.derivation.proofs.lines.sum.Goals as goal
 pub loop-i-init : goal.loop-i-init
 loop-i-init c = summing_none c.args.n (map (row_of c.args.n) c.args.rows.now) (premises_of c.args.premises.now)
 
-pub add-times-requires : goal.add-times-requires
-add-times-requires c =
+pub add_times-requires : goal.add_times-requires
+add_times-requires c =
     let p = c.get-premise.result in let i = c.loop-i.i in
     let r = get_or c.args.rows.now p.place c.index-rows-premise.result in
     let times = subst⁻¹ (λ (q : Premise). q.multiplier ≤ 10000) c.get-premise.ensures (c.requires.multipliers i) in
@@ -42,14 +42,14 @@ loop-i-preserved c =
     let low : p.place < 512 = subst⁻¹ (λ (q : Premise). q.place < 512) c.get-premise.ensures (c.requires.places i) in
     let there : p.place < length rows = omega (arith, low, c.told-rows) in
     let is = row_there n rows p.place d there in
-    summing_more n (map (row_of n) rows) ps i c.loop-i.coefficients c.add-times.new.sums _ (to_z w64 (of_z w64 c.added-right.result)) p
+    summing_more n (map (row_of n) rows) ps i c.loop-i.coefficients c.add_times.new.sums _ (to_z w64 (of_z w64 c.added-right.result)) p
     (omega (arith, c.len-i-end.ensures, c.loop-i-test.true)) c.get-premise.ensures times (limited_there n rows p.place d there) c.loop-i.invariant
-    (λ k h. c.add-times.ensures k h ∙ ap (λ z. get_or c.loop-i.coefficients k (pos 0) +ℤ pos p.multiplier *ℤ z) (sym (ap (λ (w : Row). get_or w.coefficients k (pos 0)) is ∙ get_or-take n r.coefficients.items k (pos 0) h)))
-    c.add-times.array_long
+    (λ k h. c.add_times.ensures k h ∙ ap (λ z. get_or c.loop-i.coefficients k (pos 0) +ℤ pos p.multiplier *ℤ z) (sym (ap (λ (w : Row). get_or w.coefficients k (pos 0)) is ∙ get_or-take n r.coefficients.items k (pos 0) h)))
+    c.add_times.array_long
     (to_z-of_z w64 c.added-right.result g ∙ c.added-right.ensures ∙ right_grown c.loop-i.invariant p.multiplier (to_z-of_z w64 r.right f ∙ sym (ap (λ (w : Row). w.right) is)))
 
-pub invariant-of-result : goal.invariant-of-result
-invariant-of-result c = (c.loop-i.invariant.long, tt)
+pub invariant_of-result : goal.invariant_of-result
+invariant_of-result c = record { long = c.loop-i.invariant.long }
 
 pub returns : goal.returns
 returns c =

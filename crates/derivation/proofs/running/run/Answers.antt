@@ -8,9 +8,9 @@ use Rattle.derivation.proofs.running.run.Goals as goal
 
 pub returns : goal.returns
 returns g c =
-    let o = c.open-proof.ensures in let p = c.perform-all.ensures in
+    let o = c.open-proof.ensures in let p = c.perform_all.ensures in
     let j = job_of c.args.job in let th = on_bytes g.T.Theory.reads (g.T.Theory.means c.args.theory) in let calls = map call_of c.args.steps.now in
-    let m = moment_held c.perform-all.new.self in
+    let m = moment_held c.perform_all.new.self in
     let is : m ≡ after j th (opened j) calls = p.moment ∙ (λ i. after (o.job i) (on_bytes g.T.Theory.reads (g.T.Theory.means (o.theory i))) (o.moment i) calls) in
     let reached = (o.law.one_outcome calls m).1 is in
     record {

@@ -17,7 +17,7 @@ returns g c =
     let j = job_of c.args.job in let th = on_bytes g.T.Theory.reads (g.T.Theory.means c.args.theory) in let w = g.T.Theory.width in
     let m = moment_held c.follow.new.proof in
     let ends : trace_file j th w (opened j) trace ≡ Ok m =
-    sym (λ i. trace_file (o.job i) (on_bytes g.T.Theory.reads (g.T.Theory.means (o.theory i))) w (o.moment i) trace) ∙ sym f.moment ∙ ap (moment_left m) c.in-ok-follow.was in
+    sym (λ i. trace_file (o.job i) (on_bytes g.T.Theory.reads (g.T.Theory.means (o.theory i))) w (o.moment i) trace) ∙ sym f.moment ∙ ap (moment_left m) c.in_ok-follow.was in
     let says : verdict_of c.close.result ≡ verdict j m = c.close.ensures ∙ ap (λ q. verdict q m) (f.job ∙ o.job) in
     let leads = trace_leads j th w (opened j) m trace ends in
     let reached = (o.law.one_outcome leads.0 m).1 leads.1 in

@@ -1,4 +1,4 @@
-use Rattle.std.proofs.Common.{cond, ltb, length, take, drop, Ok, Err, sym, ap, ◌∙◌, ap₂, arith}
+use Rattle.std.proofs.Common.{cond, length, take, drop, Ok, Err, sym, ap, ◌∙◌}
 use Rattle.std.proofs.lemmas.List.{take_rest}
 use Rattle.std.proofs.lemmas.Bool.{le-ltb}
 use Rattle.fields.specs.Bytes.{ends}

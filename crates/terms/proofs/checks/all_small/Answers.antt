@@ -6,18 +6,18 @@ use Rattle.terms.specs.Limits.{million, within}
 use Rattle.terms.proofs.FirstFault.{first_more, first_stop, first_all}
 use Rattle.terms.proofs.checks.all_small.Goals as goal
 
-pub returns-then-not-is-small : goal.returns-then-not-is-small
-returns-then-not-is-small c =
+pub returns-then-not-is_small : goal.returns-then-not-is_small
+returns-then-not-is_small c =
     let xs = c.args.numbers.now in let i = c.loop-i.i in
     let f : SFits w32 (get_or xs i (pos 0)) = search rules in
-    let fails : within million (get_or xs i (pos 0)) ≡ false = sym (ap (within million) (to_z-of_z w32 (get_or xs i (pos 0)) f)) ∙ sym c.is-small.ensures ∙ c.if-not-is-small.true in
+    let fails : within million (get_or xs i (pos 0)) ≡ false = sym (ap (within million) (to_z-of_z w32 (get_or xs i (pos 0)) f)) ∙ sym c.is_small.ensures ∙ c.if-not-is_small.true in
     ap answered (sym (first_stop (within million) (pos 0) OutOfRange xs i c.loop-i-test.true fails) ∙ c.loop-i.invariant)
 
 pub loop-i-preserved : goal.loop-i-preserved
 loop-i-preserved c =
     let xs = c.args.numbers.now in let i = c.loop-i.i in
     let f : SFits w32 (get_or xs i (pos 0)) = search rules in
-    let passes : within million (get_or xs i (pos 0)) ≡ true = sym (ap (within million) (to_z-of_z w32 (get_or xs i (pos 0)) f)) ∙ sym c.is-small.ensures ∙ c.if-not-is-small.false in
+    let passes : within million (get_or xs i (pos 0)) ≡ true = sym (ap (within million) (to_z-of_z w32 (get_or xs i (pos 0)) f)) ∙ sym c.is_small.ensures ∙ c.if-not-is_small.false in
     sym (first_more (within million) (pos 0) OutOfRange xs i c.loop-i-test.true passes) ∙ c.loop-i.invariant
 
 pub returns : goal.returns

@@ -1,4 +1,4 @@
-use Rattle.std.proofs.Common.{◌≡◌, get_or, pos, sym, ap, ◌∙◌, arith}
+use Rattle.std.proofs.Common.{get_or, pos, sym, ap, ◌∙◌, arith}
 use Rattle.std.proofs.lemmas.List.{get_or_past}
 use Rattle.terms.specs.Rows.{unit}
 use Rattle.terms.proofs.ByPlace.{at_unit_same, at_unit_other, length-unit}

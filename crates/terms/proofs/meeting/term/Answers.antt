@@ -3,8 +3,8 @@ use Rattle.std.proofs.lemmas.Int.{ints, to_z-of_z}
 use Rattle.terms.proofs.Integers.{product_near}
 use Rattle.terms.proofs.meeting.term.Goals as goal
 
-pub overflow-mul-result : goal.overflow-mul-result
-overflow-mul-result c =
+pub overflow_mul-result : goal.overflow_mul-result
+overflow_mul-result c =
     let fa : SFits w32 c.args.coefficient = c.ranges.coefficient in
     let fb : SFits w32 c.args.value = c.ranges.value in
     let ga : SFits w64 c.args.coefficient = omega (arith, ints) in

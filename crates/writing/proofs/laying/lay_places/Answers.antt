@@ -1,4 +1,4 @@
-use Rattle.std.proofs.Common.{◌≡◌, length, ap, ◌∙◌, arith}
+use Rattle.std.proofs.Common.{ap, ◌∙◌, arith}
 use Rattle.law.specs.Spelt.{places_of}
 use Rattle.writing.specs.Laid.{laid}
 use Rattle.spelling.specs.StepsWritten.{bytes16}
@@ -8,8 +8,8 @@ use Rattle.writing.proofs.laying.lay_places.Goals as goal
 pub loop-i-init : goal.loop-i-init
 loop-i-init c = so_far_none bytes16 (places_of c.args.places.now) c.args.at c.args.out.now
 
-pub lay-u16-next-requires : goal.lay-u16-next-requires
-lay-u16-next-requires c =
+pub lay_u16-next-requires : goal.lay_u16-next-requires
+lay_u16-next-requires c =
     let l = c.loop-i in let xs = places_of c.args.places.now in
     so_far_room bytes16 xs c.args.at c.args.out.now l.i l.out l.next 0 l.invariant (omega arith) c.requires
 
@@ -17,8 +17,8 @@ pub loop-i-preserved : goal.loop-i-preserved
 loop-i-preserved c =
     let l = c.loop-i in let xs = places_of c.args.places.now in
     so_far_more bytes16 xs c.args.at c.args.out.now l.i l.out l.next 0 l.invariant (omega arith) c.requires _ _
-    (c.lay-u16-next.ensures.out ∙ ap (λ x. laid l.next (bytes16 x) l.out) c.get.ensures)
-    c.lay-u16-next.ensures.next
+    (c.lay_u16-next.ensures.out ∙ ap (λ x. laid l.next (bytes16 x) l.out) c.get.ensures)
+    c.lay_u16-next.ensures.next
 
 pub returns : goal.returns
 returns c =

@@ -1,4 +1,4 @@
-use Rattle.std.proofs.Common.{◌≡◌, ℕ, ◌+◌, ◌*◌, leb, length, sym, subst, arith}
+use Rattle.std.proofs.Common.{ℕ, ◌+◌, ◌*◌, leb, length, subst, arith}
 use Rattle.terms.specs.declared.fault.Cause.TheVariants.{WrongLength}
 use Rattle.law.specs.Spelt.{line_of}
 use Rattle.spelling.specs.StepsWritten.{counted, line_bytes}
@@ -9,7 +9,7 @@ use Rattle.writing.proofs.step_writer.line_length.Goals as goal
 pub returns : goal.returns
 returns c =
     let l = line_of c.args.line.now in let k = c.len-count.result in
-    let few = c.in-ok-need.ensures in
+    let few = c.in_ok-need.ensures in
     record {
       is = suitable_length (counted l.premises) (5 + 4 * k) (length (line_bytes l)) (subst (λ (n : ℕ). Passes (leb n 255) WrongLength) c.len-count.ensures few) (omega (arith, c.len-count.ensures, line_long l));
       small = omega (arith, is_counted k few);

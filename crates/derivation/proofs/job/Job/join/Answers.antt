@@ -1,9 +1,9 @@
-use Rattle.std.proofs.Common.{◌≡◌, ℕ, ◌+◌, ◌≤◌, true, [], ◌∷◌, ◌++◌, length, sym, ap, ◌∙◌, subst, ap₂, arith, rules}
+use Rattle.std.proofs.Common.{◌≡◌, ℕ, ◌+◌, ◌≤◌, true, [], ◌∷◌, length, sym, ap, ◌∙◌, subst, ap₂, arith}
 use Rattle.std.proofs.lemmas.List.{append_assoc}
 use Rattle.terms.specs.declared.row.Row.{Row as Stored}
 use Rattle.terms.specs.Rows.{Row, turned}
 use Rattle.terms.specs.Stored.{row_of, whole}
-use Rattle.law.specs.Jobs.{Job, rewritten}
+use Rattle.law.specs.Jobs.{rewritten}
 use Rattle.derivation.specs.Blank.{blank_from}
 use Rattle.derivation.specs.JobView.{job_of, with_rows}
 use Rattle.derivation.proofs.BlankRows.{negated_blank}

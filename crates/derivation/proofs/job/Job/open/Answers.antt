@@ -1,4 +1,4 @@
-use Rattle.std.proofs.Common.{◌≡◌, take, None, refl, ap}
+use Rattle.std.proofs.Common.{take, None, refl, ap}
 use Rattle.law.specs.Table.{view}
 use Rattle.law.proofs.Derivations.{bytes_lawful, law}
 use Rattle.derivation.proofs.StoredJobs.{rows_few, size_small}

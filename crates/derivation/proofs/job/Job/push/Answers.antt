@@ -1,13 +1,13 @@
-use Rattle.std.proofs.Common.{◌≡◌, take, refl, ap, ◌∙◌, arith}
+use Rattle.std.proofs.Common.{take, refl, ap, ◌∙◌, arith}
 use Rattle.std.proofs.lemmas.List.{length-set}
 use Rattle.derivation.proofs.BlankRows.{rows_blank_set}
 use Rattle.derivation.proofs.RowsAdded.{rows_pushed}
 use Rattle.derivation.proofs.job.Job.push.Goals as goal
 
-pub invariant-of-self : goal.invariant-of-self
-invariant-of-self c =
+pub invariant_of-self : goal.invariant_of-self
+invariant_of-self c =
     let o = c.args.self.now in
-    (o.narrow, (length-set o.rows o.count c.args.row ∙ o.long, (omega (arith, c.requires.room), (rows_blank_set o.size o.rows o.count c.args.row c.requires.blank o.blank, tt))))
+    record { narrow = o.narrow; long = length-set o.rows o.count c.args.row ∙ o.long; few = omega (arith, c.requires.room); blank = rows_blank_set o.size o.rows o.count c.args.row c.requires.blank o.blank }
 
 pub returns : goal.returns
 returns c =

@@ -1,4 +1,4 @@
-use Rattle.std.proofs.Common.{◌≡◌, ℕ, ◌+◌, ◌<◌, ◌≤◌, ltb, [], ◌∷◌, ◌++◌, map, length, take, set, ℤ, pos, nat_abs, None, sym, ap, ◌∙◌, ap₂, arith, w32, to_z, of_z, rules}
+use Rattle.std.proofs.Common.{◌≡◌, ℕ, ◌+◌, ◌<◌, ◌≤◌, ltb, [], ◌∷◌, ◌++◌, map, take, ℤ, pos, nat_abs, None, sym, ap, ◌∙◌, ap₂, arith, w32, to_z, of_z}
 use Rattle.std.proofs.lemmas.List.{length-set, length-take-le, take-map, take_more_set}
 use Rattle.std.proofs.lemmas.Int.{to_z-of_z}
 use Rattle.std.proofs.lemmas.Bool.{ltb-true}
@@ -9,7 +9,7 @@ use Rattle.terms.specs.Stored.{row_of}
 use Rattle.terms.proofs.Passed.{parts_passed, passed, unless_passed}
 use Rattle.terms.proofs.Places.{at_set, changed_as}
 use Rattle.terms.proofs.SmallLists.{within_near}
-use Rattle.law.specs.Jobs.{Job, variable_checks, widened}
+use Rattle.law.specs.Jobs.{variable_checks, widened}
 use Rattle.derivation.proofs.BlankRows.{rows_blank_more, rows_widened}
 use Rattle.derivation.proofs.job.Job.variable.Goals as goal
 
@@ -24,22 +24,22 @@ joins n c e =
     let q = parts_passed (unless (ltb n 16) Full 0) [] p.1 in
     record { small = within_near million c (unless_passed (within million c) OutOfRange 0 p.0); room = ltb-true n 16 (unless_passed (ltb n 16) Full 0 q.0) }
 
-pub invariant-of-self : goal.invariant-of-self
-invariant-of-self c =
+pub invariant_of-self : goal.invariant_of-self
+invariant_of-self c =
     let o = c.args.self.now in let z = to_z w32 (of_z w32 c.args.cost) in
-    let j = joins o.size z (passed _ _ _ c.in-ok-check-variable.ensures).0 in
-    (length-set o.costs.items o.size z ∙ o.costs.long, (at_set (λ a. nat_abs a ≤ 1000000) o.costs.items o.size z (pos 0) j.small o.costs.small, tt))
+    let j = joins o.size z (passed _ _ _ c.in_ok-check_variable.ensures).0 in
+    record { long = length-set o.costs.items o.size z ∙ o.costs.long; small = at_set (λ a. nat_abs a ≤ 1000000) o.costs.items o.size z (pos 0) j.small o.costs.small }
 
-pub invariant-of-self-2 : goal.invariant-of-self-2
-invariant-of-self-2 c =
+pub invariant_of-self-2 : goal.invariant_of-self-2
+invariant_of-self-2 c =
     let o = c.args.self.now in
-    let j = joins o.size (to_z w32 (of_z w32 c.args.cost)) (passed _ _ _ c.in-ok-check-variable.ensures).0 in
-    (omega (arith, j.room), (o.long, (o.few, (rows_blank_more o.size o.rows j.room o.blank, tt))))
+    let j = joins o.size (to_z w32 (of_z w32 c.args.cost)) (passed _ _ _ c.in_ok-check_variable.ensures).0 in
+    record { narrow = omega (arith, j.room); long = o.long; few = o.few; blank = rows_blank_more o.size o.rows j.room o.blank }
 
 pub returns : goal.returns
 returns c =
     let o = c.args.self.now in let n = o.size in let xs = o.costs.items in let z = to_z w32 (of_z w32 c.args.cost) in
-    let e : first_fault (variable_checks n z) ≡ None = (passed _ _ _ c.in-ok-check-variable.ensures).0 in
+    let e : first_fault (variable_checks n z) ≡ None = (passed _ _ _ c.in_ok-check_variable.ensures).0 in
     let t = to_z-of_z w32 c.args.cost c.ranges.cost in
     let j = joins n z e in
     let costs = take_more_set xs n z (omega (arith, j.room, o.costs.long)) ∙ ap (λ y. take n xs ++ y ∷ []) t in

@@ -1,4 +1,4 @@
-use Rattle.std.proofs.Common.{◌+◌, [], map, drop, sym, ap, ◌∙◌, arith}
+use Rattle.std.proofs.Common.{◌+◌, map, drop, sym, ap, ◌∙◌}
 use Rattle.std.proofs.lemmas.List.{drop_all, drop_more}
 use Rattle.theories.specs.Meaning.{on_bytes}
 use Rattle.law.specs.Pile.{after}

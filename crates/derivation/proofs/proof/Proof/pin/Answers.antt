@@ -12,26 +12,26 @@ use Rattle.derivation.proofs.PinChecked.{pin_fixed, pin_unfixed}
 use Rattle.derivation.proofs.StepsTaken.{changed_to, holding_is, job_kept, orderly, shut_as, step-accepted, step_refused}
 use Rattle.derivation.proofs.proof.Proof.pin.Goals as goal
 
-pub returns-in-err-point : goal.returns-in-err-point
-returns-in-err-point g c =
+pub returns-in_err-point : goal.returns-in_err-point
+returns-in_err-point g c =
     let s = c.args.self.now.state in let ps = places_of c.args.places in let th = on_bytes g.T.Theory.reads (g.T.Theory.means c.args.self.now.theory) in let p = holding_of s in
-    let e = err_from_is_err_and c.from-residual-in-err-point.result c.from-residual-in-err-point.ensures.1 in
-    let open' = unless_passed s.table.marked NothingOpen 0 (passed _ _ _ c.in-ok-need.ensures).0 in
+    let e = err_from_is_err_and c.from_residual-in_err-point.result c.from_residual-in_err-point.ensures.1 in
+    let open' = unless_passed s.table.marked NothingOpen 0 (passed _ _ _ c.in_ok-need.ensures).0 in
     record {
-      step = ap (λ r. (moment_of s, r)) (e.1 ∙ ap Err e.2) ∙ step_refused (job_in s) th p (pin ps) _ open' (pin_unfixed s th p.table p.taken ps _ c.in-err-point.ensures);
+      step = ap (λ r. (moment_of s, r)) (e.1 ∙ ap Err e.2) ∙ step_refused (job_in s) th p (pin ps) _ open' (pin_unfixed s th p.table p.taken ps _ c.in_err-point.ensures);
       job = refl;
       theory = refl;
     }
 
-pub returns-in-err-need-2 : goal.returns-in-err-need-2
-returns-in-err-need-2 g c =
+pub returns-in_err-need-2 : goal.returns-in_err-need-2
+returns-in_err-need-2 g c =
     let s = c.args.self.now.state in let ps = places_of c.args.places in let th = on_bytes g.T.Theory.reads (g.T.Theory.means c.args.self.now.theory) in let p = holding_of s in
-    let e = err_from_is_err_and c.from-residual-in-err-need-2.result c.from-residual-in-err-need-2.ensures.1 in
-    let open' = unless_passed s.table.marked NothingOpen 0 (passed _ _ _ c.in-ok-need.ensures).0 in
-    let stays = ap (λ b. unless b PointStaysOpen 0) (sym c.shuts-at.ensures) ∙ stopped _ _ _ c.in-err-need-2.ensures in
+    let e = err_from_is_err_and c.from_residual-in_err-need-2.result c.from_residual-in_err-need-2.ensures.1 in
+    let open' = unless_passed s.table.marked NothingOpen 0 (passed _ _ _ c.in_ok-need.ensures).0 in
+    let stays = ap (λ b. unless b PointStaysOpen 0) (sym c.shuts_at.ensures) ∙ stopped _ _ _ c.in_err-need-2.ensures in
     record {
       step = ap (λ r. (moment_of s, r)) (e.1 ∙ ap Err e.2)
-          ∙ step_refused (job_in s) th p (pin ps) _ open' (pin_fixed s th p.table p.taken ps c.in-ok-point.point.items c.in-ok-point.ensures ∙ stays);
+          ∙ step_refused (job_in s) th p (pin ps) _ open' (pin_fixed s th p.table p.taken ps c.in_ok-point.point.items c.in_ok-point.ensures ∙ stays);
       job = refl;
       theory = refl;
     }
@@ -39,12 +39,12 @@ returns-in-err-need-2 g c =
 pub returns : goal.returns
 returns g c =
     let s = c.args.self.now.state in let ps = places_of c.args.places in let th = on_bytes g.T.Theory.reads (g.T.Theory.means c.args.self.now.theory) in let p = holding_of s in
-    let open' = unless_passed s.table.marked NothingOpen 0 (passed _ _ _ c.in-ok-need.ensures).0 in
-    let shuts = ap (λ b. unless b PointStaysOpen 0) (sym c.shuts-at.ensures) ∙ (passed _ _ _ c.in-ok-need-2.ensures).0 in
+    let open' = unless_passed s.table.marked NothingOpen 0 (passed _ _ _ c.in_ok-need.ensures).0 in
+    let shuts = ap (λ b. unless b PointStaysOpen 0) (sym c.shuts_at.ensures) ∙ (passed _ _ _ c.in_ok-need-2.ensures).0 in
     let t = c.shut.new.self in let fixed = c.shut.ensures.fixed in
     record {
       step = step-accepted (job_in s) th p (pin ps) (holding_of (changed_to s t s.taken fixed)) (orderly s) open'
-          (pin_fixed s th p.table p.taken ps c.in-ok-point.point.items c.in-ok-point.ensures ∙ shuts)
+          (pin_fixed s th p.table p.taken ps c.in_ok-point.point.items c.in_ok-point.ensures ∙ shuts)
           (holding_is s t s.taken fixed (shut_by (job_in s).rows p.table p.heights) c.shut.ensures.held ∙ shut_as (job_in s) p.table p.heights p.taken);
       job = job_kept s t s.taken fixed;
       theory = refl;

@@ -14,16 +14,16 @@ premise_at_lem k i h = get_or_append_left (take k.count k.premises) _ no_differe
 in_all : (k : KnownRule) (i : ℕ) → i < k.count → i < length (take k.count k.premises ++ k.conclusion ∷ [])
 in_all k i h = omega (arith, premises_long k, length-append (take k.count k.premises) (k.conclusion ∷ []))
 
-pub returns-then-not-are-named : goal.returns-then-not-are-named
-returns-then-not-are-named c =
+pub returns-then-not-are_named : goal.returns-then-not-are_named
+returns-then-not-are_named c =
     let k = c.args.self.now in let n = c.args.n in let i = c.loop-i.i in let h = c.loop-i-test.true in
-    let t = ap (both_named n) (premise_at_lem k i h) ∙ sym c.if-not-are-named.ensures in
+    let t = ap (both_named n) (premise_at_lem k i h) ∙ sym c.if-not-are_named.ensures in
     ap answered (sym (first_stop (both_named n) no_difference PlaceNotVariable (take k.count k.premises ++ k.conclusion ∷ []) i (in_all k i h) t) ∙ c.loop-i.invariant.0)
 
 pub loop-i-preserved : goal.loop-i-preserved
 loop-i-preserved c =
     let k = c.args.self.now in let n = c.args.n in let i = c.loop-i.i in let h = c.loop-i-test.true in
-    let t = ap (both_named n) (premise_at_lem k i h) ∙ sym c.if-not-are-named.ensures in
+    let t = ap (both_named n) (premise_at_lem k i h) ∙ sym c.if-not-are_named.ensures in
     (sym (first_more (both_named n) no_difference PlaceNotVariable (take k.count k.premises ++ k.conclusion ∷ []) i (in_all k i h) t) ∙ c.loop-i.invariant.0, omega (arith, h))
 
 pub returns : goal.returns
@@ -31,4 +31,4 @@ returns c =
     let k = c.args.self.now in let n = c.args.n in let i = c.loop-i.i in
     let e : i ≡ k.count = omega (arith, c.loop-i.invariant.1, c.loop-i-test.false) in
     c.need.ensures
-    ∙ ap answered (ap (λ b. unless b PlaceNotVariable k.count) c.are-named-2.ensures ∙ sym (last_left (both_named n) PlaceNotVariable (take k.count k.premises) k.conclusion i k.count (premises_long k) e) ∙ c.loop-i.invariant.0)
+    ∙ ap answered (ap (λ b. unless b PlaceNotVariable k.count) c.are_named-2.ensures ∙ sym (last_left (both_named n) PlaceNotVariable (take k.count k.premises) k.conclusion i k.count (premises_long k) e) ∙ c.loop-i.invariant.0)

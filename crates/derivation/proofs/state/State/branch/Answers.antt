@@ -1,4 +1,4 @@
-use Rattle.std.proofs.Common.{◌≡◌, ℕ, [], ◌∷◌, ◌++◌, length, pos, sym, ap, ◌∙◌, ap₂, arith, w64, to_z, of_z}
+use Rattle.std.proofs.Common.{ℕ, [], ◌∷◌, ◌++◌, length, pos, sym, ap, ◌∙◌, ap₂, arith, w64, to_z, of_z}
 use lib.Signed.{lt_z}
 use Rattle.std.proofs.lemmas.Int.{ints, to_z-of_z}
 use Rattle.terms.specs.declared.fault.Cause.TheVariants.{NothingOpen}
@@ -18,7 +18,7 @@ use Rattle.derivation.proofs.state.State.branch.Goals as goal
 pub branch-self-requires : goal.branch-self-requires
 branch-self-requires c =
     let o = c.args.self.now.table in let cs = c.args.coefficients.now in let z = to_z w64 (of_z w64 c.args.right) in
-    let b = c.in-ok-row.ensures in
+    let b = c.in_ok-row.ensures in
     let f = branch_fits o.size (held_of o).rows cs z o.narrow b.passed in
     let below = ap (λ (r : Row). lt_z r.right (pos right_limit)) b.is ∙ f.1 in
     record { room = omega (arith, f.2, rows_long o); limited = omega (arith, ints, below) }
@@ -26,11 +26,11 @@ branch-self-requires c =
 pub returns : goal.returns
 returns c =
     let s = c.args.self.now in let o = s.table in let cs = c.args.coefficients.now in let z = to_z w64 (of_z w64 c.args.right) in
-    let b = c.in-ok-row.ensures in let e = to_z-of_z w64 c.args.right c.ranges.right in
+    let b = c.in_ok-row.ensures in let e = to_z-of_z w64 c.args.right c.ranges.right in
     let f = branch_fits o.size (held_of o).rows cs z o.narrow b.passed in
-    let open' = unless_passed o.marked NothingOpen 0 (passed _ _ _ c.in-ok-need.ensures).0 in
+    let open' = unless_passed o.marked NothingOpen 0 (passed _ _ _ c.in_ok-need.ensures).0 in
     let t = c.branch-self.new.self in let p = holding_of s in let fixed = c.branch-self.ensures.fixed in
-    let row = front_padded o.size c.in-ok-row.row cs z f.0 b.is ∙ ap (λ y. record { coefficients = cs; right = y }) e in
+    let row = front_padded o.size c.in_ok-row.row cs z f.0 b.is ∙ ap (λ y. record { coefficients = cs; right = y }) e in
     let clear = sym (ap (λ y. first_fault (branch_checks o.size p.table (record { coefficients = cs; right = y }))) e) ∙ b.passed in
     record {
       step = λ th. step-accepted (job_in s) th p (branch (record { coefficients = cs; right = c.args.right })) (holding_of (changed_to s t s.taken fixed)) (orderly s) open'

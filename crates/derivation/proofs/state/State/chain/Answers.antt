@@ -11,17 +11,17 @@ use Rattle.derivation.proofs.StepsTaken.{chain_room, job_kept, rows_long, step_p
 use Rattle.derivation.proofs.state.State.chain.Goals as goal
 
 pub push-requires : goal.push-requires
-push-requires c = let o = c.args.self.now.table in let t = c.check-chain.new.self in
-    omega (arith, rows_long o, rows_long t, ap (λ (h : Held). length h.rows) c.check-chain.ensures.held, chain_room (held_of o).rows (lines_of c.args.lines) c.in-ok-row.ensures.outcome.passed)
+push-requires c = let o = c.args.self.now.table in let t = c.check_chain.new.self in
+    omega (arith, rows_long o, rows_long t, ap (λ (h : Held). length h.rows) c.check_chain.ensures.held, chain_room (held_of o).rows (lines_of c.args.lines) c.in_ok-row.ensures.outcome.passed)
 
 pub returns : goal.returns
 returns c =
     let s = c.args.self.now in let p = holding_of s in let t = c.push.new.self in
-    let row = c.in-ok-row.row in
-    let fixed = c.push.ensures.fixed ∙ c.check-chain.ensures.fixed in
-    let held = c.push.ensures.held ∙ ap₂ (λ (h : Held) (f : Fixed). record { rows = h.rows ++ row_of f.size row ∷ []; heights = h.heights; mark = h.mark }) c.check-chain.ensures.held c.check-chain.ensures.fixed in
-    let m = c.in-ok-row.ensures.outcome in
-    let open' = unless_passed s.table.marked NothingOpen 0 (passed _ _ _ c.in-ok-need.ensures).0 in
+    let row = c.in_ok-row.row in
+    let fixed = c.push.ensures.fixed ∙ c.check_chain.ensures.fixed in
+    let held = c.push.ensures.held ∙ ap₂ (λ (h : Held) (f : Fixed). record { rows = h.rows ++ row_of f.size row ∷ []; heights = h.heights; mark = h.mark }) c.check_chain.ensures.held c.check_chain.ensures.fixed in
+    let m = c.in_ok-row.ensures.outcome in
+    let open' = unless_passed s.table.marked NothingOpen 0 (passed _ _ _ c.in_ok-need.ensures).0 in
     record {
       step = λ th. step_pushed s th (chain (lines_of c.args.lines)) t fixed (row_of s.table.size row) held open' m.passed (ap (joined p.table p.heights p.taken) m.is);
       job = job_kept s t s.taken fixed;

@@ -18,11 +18,11 @@ pub returns : goal.returns
 returns c =
     let s = c.args.self.now in let p = holding_of s in let t = c.push.new.self in let fixed = c.push.ensures.fixed in
     let z = c.cost-right.result in
-    let open' = unless_passed s.table.marked NothingOpen 0 (passed _ _ _ c.in-ok-need.ensures).0 in
+    let open' = unless_passed s.table.marked NothingOpen 0 (passed _ _ _ c.in_ok-need.ensures).0 in
     let some = ap (plan_of s.table.size) c.in-Some.is in
     let row : Row = record { coefficients = (job_in s).costs; right = to_z w64 (of_z w64 (to_z w64 (of_z w64 z) -ℤ pos 1)) } in
     let is : row ≡ cutoff_row (job_in s) p.taken = ap (λ y. record { coefficients = (job_in s).costs; right = y }) (less_one z _ c.cost-right.ensures.bound c.cost-right.ensures.value) ∙ sym (ap (cutoff_row (job_in s)) some) in
-    let room = has_room p.table c.len.result c.len.ensures.value (passed _ _ _ c.in-ok-need-2.ensures).0 in
+    let room = has_room p.table c.len.result c.len.ensures.value (passed _ _ _ c.in_ok-need-2.ensures).0 in
     record {
       step = λ th. step_pushed s th cutoff t fixed row c.push.ensures.held open' (ap (λ o. first_fault (cutoff_checks p.table o)) some ∙ pass_one _ [] room) (ap (joined p.table p.heights p.taken) is);
       job = job_kept s t s.taken fixed;

@@ -8,25 +8,25 @@ use Rattle.derivation.specs.TableView.{shut_by}
 use Rattle.derivation.proofs.StepsTaken.{changed_to, holding_is, job_kept, orderly, shut_as, step-accepted, step_refused}
 use Rattle.derivation.proofs.state.State.drop_at.Goals as goal
 
-pub returns-in-err-check-drop : goal.returns-in-err-check-drop
-returns-in-err-check-drop c =
+pub returns-in_err-check_drop : goal.returns-in_err-check_drop
+returns-in_err-check_drop c =
     let s = c.args.self.now in
-    let e = err_from_is_err_and c.from-residual-in-err-check-drop.result c.from-residual-in-err-check-drop.ensures.1 in
-    let open' = unless_passed s.table.marked NothingOpen 0 (passed _ _ _ c.in-ok-need.ensures).0 in
-    let refused = stopped _ _ _ c.in-err-check-drop.ensures in
+    let e = err_from_is_err_and c.from_residual-in_err-check_drop.result c.from_residual-in_err-check_drop.ensures.1 in
+    let open' = unless_passed s.table.marked NothingOpen 0 (passed _ _ _ c.in_ok-need.ensures).0 in
+    let refused = stopped _ _ _ c.in_err-check_drop.ensures in
     record {
       step = λ th. ap (λ r. (moment_of s, r)) (e.1 ∙ ap Err e.2) ∙ step_refused (job_in s) th (holding_of s) (drop c.args.place) _ open' refused;
       job = refl;
     }
 
 pub shut-requires : goal.shut-requires
-shut-requires c = unless_passed c.args.self.now.table.marked NothingOpen 0 (passed _ _ _ c.in-ok-need.ensures).0
+shut-requires c = unless_passed c.args.self.now.table.marked NothingOpen 0 (passed _ _ _ c.in_ok-need.ensures).0
 
 pub returns : goal.returns
 returns c =
     let s = c.args.self.now in
-    let open' = unless_passed s.table.marked NothingOpen 0 (passed _ _ _ c.in-ok-need.ensures).0 in
-    let clear = (passed _ _ _ c.in-ok-check-drop.ensures).0 in
+    let open' = unless_passed s.table.marked NothingOpen 0 (passed _ _ _ c.in_ok-need.ensures).0 in
+    let clear = (passed _ _ _ c.in_ok-check_drop.ensures).0 in
     let t = c.shut.new.self in let p = holding_of s in let fixed = c.shut.ensures.fixed in
     record {
       step = λ th. step-accepted (job_in s) th p (drop c.args.place) (holding_of (changed_to s t s.taken fixed)) (orderly s) open' clear

@@ -13,11 +13,11 @@ use Rattle.derivation.proofs.RulesChecked.{conclusion_row, is_there, rule_room}
 use Rattle.derivation.proofs.StepsTaken.{job_kept, rows_long, size_in, step_pushed, step_refused}
 use Rattle.derivation.proofs.state.State.infer.Goals as goal
 
-pub returns-in-err-check-rule : goal.returns-in-err-check-rule
-returns-in-err-check-rule c =
+pub returns-in_err-check_rule : goal.returns-in_err-check_rule
+returns-in_err-check_rule c =
     let s = c.args.self.now in let p = holding_of s in let ps = places_of c.args.places.now in
-    let e = err_from_is_err_and c.from-residual.result c.from-residual.ensures.1 in
-    let refused = stopped _ _ _ c.in-err-check-rule.ensures in
+    let e = err_from_is_err_and c.from_residual.result c.from_residual.ensures.1 in
+    let refused = stopped _ _ _ c.in_err-check_rule.ensures in
     record {
       step = λ th clue is. ap (λ r. (moment_of s, r)) (e.1 ∙ ap Err e.2)
           ∙ step_refused (job_in s) th p (infer clue ps) _ c.requires (ap₂ (λ m u. first_fault (rule_checks m p.table u ps)) (size_in s) is ∙ refused);
@@ -25,22 +25,22 @@ returns-in-err-check-rule c =
     }
 
 pub unreachable-requires : goal.unreachable-requires
-unreachable-requires c = is_there _ _ c.args.rule.now.limited c.in-default.ensures
+unreachable-requires c = is_there _ _ c.args.rule.now.limited c.in_default.ensures
 
 pub unreachable : goal.unreachable
-unreachable c = is_there _ _ c.args.rule.now.limited c.in-default.ensures
+unreachable c = is_there _ _ c.args.rule.now.limited c.in_default.ensures
 
 pub push-requires : goal.push-requires
 push-requires c =
     let s = c.args.self.now in
-    let room = rule_room s.table.size (holding_of s).table (rule_held c.args.rule.now) (places_of c.args.places.now) (passed _ _ _ c.in-ok-check-rule.ensures).0 in
+    let room = rule_room s.table.size (holding_of s).table (rule_held c.args.rule.now) (places_of c.args.places.now) (passed _ _ _ c.in_ok-check_rule.ensures).0 in
     omega (arith, room, rows_long s.table)
 
 pub returns : goal.returns
 returns c =
     let s = c.args.self.now in let p = holding_of s in let n = s.table.size in let k = c.args.rule.now in let ps = places_of c.args.places.now in
     let t = c.push.new.self in let fixed = c.push.ensures.fixed in let r = c.in-Some.row in
-    let clear = (passed _ _ _ c.in-ok-check-rule.ensures).0 in
+    let clear = (passed _ _ _ c.in_ok-check_rule.ensures).0 in
     let is = conclusion_row n k r s.table.narrow c.in-Some.ensures in
     record {
       step = λ th clue e. step_pushed s th (infer clue ps) t fixed (row_of n r) c.push.ensures.held c.requires

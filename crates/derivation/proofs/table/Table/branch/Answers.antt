@@ -1,4 +1,4 @@
-use Rattle.std.proofs.Common.{◌≡◌, ℕ, ◌+◌, ◌<◌, true, List, ◌∷◌, reverse, length, get_or, take, set, pos, sym, ap, ◌∙◌, ap₂, arith}
+use Rattle.std.proofs.Common.{◌≡◌, ℕ, ◌+◌, ◌<◌, true, List, reverse, length, get_or, take, set, pos, sym, ap, ◌∙◌, ap₂, arith}
 use lib.Signed.{lt_z}
 use Rattle.std.proofs.lemmas.List.{get_or-set_same, length-map, length-reverse, length-set, length-take-le, map-set}
 use Rattle.std.proofs.lemmas.Int.{ints}
@@ -25,27 +25,20 @@ written_right rows i r l e =
 pub bounds-self-self : goal.bounds-self-self
 bounds-self-self c = fewer c.args.self.now c.requires.room
 
-pub invariant-of-self : goal.invariant-of-self
-invariant-of-self c =
+pub invariant_of-self : goal.invariant_of-self
+invariant_of-self c =
     let o = c.args.self.now in let hs = reverse (take o.waiting o.heights) in let r = c.args.row in
     let few = fewer o c.requires.room in
     let limited = c.requires.limited in
-    let s = stacked_from o.given (rights_of (set o.rows o.count r)) (o.count + 1) o.count hs (omega arith) (written_right o.rows o.count r (omega (arith, c.requires.room, o.long)) (sym (omega (arith, ints, limited)))) (below_written o.given o.rows o.count r hs o.stack) in (
-      o.narrow,
-      (
-        length-set o.rows o.count r ∙ o.long,
-        (
-          omega (arith, c.requires.room),
-          (
-            length-set o.heights o.waiting o.count ∙ o.tall,
-            (
-              omega arith,
-              (ap (stacked o.given (rights_of (set o.rows o.count r)) (o.count + 1)) (height_pushed o.heights o.waiting o.count (omega (arith, few, o.tall))) ∙ s, tt),
-            ),
-          ),
-        ),
-      ),
-    )
+    let s = stacked_from o.given (rights_of (set o.rows o.count r)) (o.count + 1) o.count hs (omega arith) (written_right o.rows o.count r (omega (arith, c.requires.room, o.long)) (sym (omega (arith, ints, limited)))) (below_written o.given o.rows o.count r hs o.stack) in
+    record {
+      narrow = o.narrow;
+      long = length-set o.rows o.count r ∙ o.long;
+      few = omega (arith, c.requires.room);
+      tall = length-set o.heights o.waiting o.count ∙ o.tall;
+      less = omega arith;
+      stack = ap (stacked o.given (rights_of (set o.rows o.count r)) (o.count + 1)) (height_pushed o.heights o.waiting o.count (omega (arith, few, o.tall))) ∙ s;
+    }
 
 pub returns : goal.returns
 returns c =

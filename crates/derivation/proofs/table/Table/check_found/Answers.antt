@@ -11,12 +11,12 @@ use Rattle.derivation.specs.TableView.{held_of}
 use Rattle.derivation.proofs.RulesChecked.{no_difference, premise_pair, rule_pairs}
 use Rattle.derivation.proofs.table.Table.check_found.Goals as goal
 
-pub returns-then-not-is-found : goal.returns-then-not-is-found
-returns-then-not-is-found c =
+pub returns-then-not-is_found : goal.returns-then-not-is_found
+returns-then-not-is_found c =
     let o = c.args.self.now in let k = c.args.rule.now in let ps = places_of c.args.places.now in let i = c.loop-i.i in
     let h = c.loop-i-test.true in
     let test : Difference × ℕ → Bool = λ q. found o.size (held_of o).rows q.0 q.1 in
-    let t = ap test (premise_pair k ps i c.requires h) ∙ ap (λ p. test (get_or k.premises i no_difference, p)) (sym c.get.ensures) ∙ sym c.if-not-is-found.ensures in
+    let t = ap test (premise_pair k ps i c.requires h) ∙ ap (λ p. test (get_or k.premises i no_difference, p)) (sym c.get.ensures) ∙ sym c.if-not-is_found.ensures in
     ap answered (sym (first_stop test (no_difference, 0) NoSuchPlace (zip (rule_held k).premises ps) i (omega (arith, h, rule_pairs k ps c.requires)) t) ∙ c.loop-i.invariant)
 
 pub loop-i-preserved : goal.loop-i-preserved
@@ -24,7 +24,7 @@ loop-i-preserved c =
     let o = c.args.self.now in let k = c.args.rule.now in let ps = places_of c.args.places.now in let i = c.loop-i.i in
     let h = c.loop-i-test.true in
     let test : Difference × ℕ → Bool = λ q. found o.size (held_of o).rows q.0 q.1 in
-    let t = ap test (premise_pair k ps i c.requires h) ∙ ap (λ p. test (get_or k.premises i no_difference, p)) (sym c.get.ensures) ∙ sym c.if-not-is-found.ensures in
+    let t = ap test (premise_pair k ps i c.requires h) ∙ ap (λ p. test (get_or k.premises i no_difference, p)) (sym c.get.ensures) ∙ sym c.if-not-is_found.ensures in
     sym (first_more test (no_difference, 0) NoSuchPlace (zip (rule_held k).premises ps) i (omega (arith, h, rule_pairs k ps c.requires)) t) ∙ c.loop-i.invariant
 
 pub returns : goal.returns

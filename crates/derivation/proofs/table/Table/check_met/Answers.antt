@@ -1,4 +1,4 @@
-use Rattle.std.proofs.Common.{◌≡◌, ℕ, ◌<◌, ◌≤◌, Bool, true, false, List, map, length, get_or, take, sym, ap, ◌∙◌, arith}
+use Rattle.std.proofs.Common.{◌≡◌, ℕ, ◌<◌, ◌≤◌, List, map, length, get_or, take, sym, ap, ◌∙◌, arith}
 use lib.Signed.{le_z}
 use Rattle.std.proofs.lemmas.List.{length-map, length-take-le}
 use Rattle.terms.specs.declared.fault.Cause.TheVariants.{RowMissed}
@@ -20,18 +20,18 @@ met_at n rows k i d x l h m =
 table_long : (n : ℕ) (rows : List Stored) (k : ℕ) → k ≤ length rows → length (map (row_of n) (take k rows)) ≡ k
 table_long n rows k m = length-map (take k rows) (row_of n) ∙ length-take-le k rows m
 
-pub returns-then-not-is-met : goal.returns-then-not-is-met
-returns-then-not-is-met c =
+pub returns-then-not-is_met : goal.returns-then-not-is_met
+returns-then-not-is_met c =
     let o = c.args.self.now in let x = c.args.plan.now in let k = c.args.k in let i = c.loop-i.i in
     let m : k ≤ length o.rows = omega (arith, c.requires.few, o.long) in
-    let t = met_at o.size o.rows k i c.index-self-i.result x c.requires.long c.loop-i-test.true m ∙ sym c.if-not-is-met.ensures in
+    let t = met_at o.size o.rows k i c.index-self-i.result x c.requires.long c.loop-i-test.true m ∙ sym c.if-not-is_met.ensures in
     ap answered (sym (first_stop (meets x) no_row RowMissed (map (row_of o.size) (take k o.rows)) i (omega (arith, c.loop-i-test.true, table_long o.size o.rows k m)) t) ∙ c.loop-i.invariant)
 
 pub loop-i-preserved : goal.loop-i-preserved
 loop-i-preserved c =
     let o = c.args.self.now in let x = c.args.plan.now in let k = c.args.k in let i = c.loop-i.i in
     let m : k ≤ length o.rows = omega (arith, c.requires.few, o.long) in
-    let t = met_at o.size o.rows k i c.index-self-i.result x c.requires.long c.loop-i-test.true m ∙ sym c.if-not-is-met.ensures in
+    let t = met_at o.size o.rows k i c.index-self-i.result x c.requires.long c.loop-i-test.true m ∙ sym c.if-not-is_met.ensures in
     sym (first_more (meets x) no_row RowMissed (map (row_of o.size) (take k o.rows)) i (omega (arith, c.loop-i-test.true, table_long o.size o.rows k m)) t) ∙ c.loop-i.invariant
 
 pub returns : goal.returns

@@ -10,4 +10,4 @@ pub returns : goal.returns
 returns c =
     let o = c.args.self.now in let xs = c.args.point.now.items in
     let z : o.size - 0 ≡ o.size = omega arith in
-    c.is-ok.ensures.value ∙ ap is_ok c.check-met.ensures ∙ every-answered RowMissed 0 (map (meets (take (o.size - 0) xs)) (held_of o).rows) ∙ ap (λ k. every (map (meets (take k xs)) (held_of o).rows)) z
+    c.is_ok.ensures.value ∙ ap is_ok c.check_met.ensures ∙ every-answered RowMissed 0 (map (meets (take (o.size - 0) xs)) (held_of o).rows) ∙ ap (λ k. every (map (meets (take k xs)) (held_of o).rows)) z

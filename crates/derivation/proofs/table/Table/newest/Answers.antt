@@ -1,4 +1,4 @@
-use Rattle.std.proofs.Common.{◌≡◌, ◌-◌, ◌∷◌, reverse, get_or, take, sym, refl, ap, ◌∙◌, arith}
+use Rattle.std.proofs.Common.{sym, refl, ap, ◌∙◌, arith}
 use Rattle.derivation.specs.Stacked.{rights_of, stacked}
 use Rattle.derivation.proofs.Stacks.{height_newest, stacked_parts}
 use Rattle.derivation.proofs.table.Table.newest.Goals as goal

@@ -11,11 +11,11 @@ use Rattle.derivation.specs.TableView.{held_of}
 use Rattle.derivation.proofs.HeldVariables.{held_near, held_variable, length_held}
 use Rattle.derivation.proofs.table.Table.point.Goals as goal
 
-pub returns-in-default : goal.returns-in-default
-returns-in-default c =
+pub returns-in_default : goal.returns-in_default
+returns-in_default c =
     let o = c.args.self.now in let n = o.size in let t = (held_of o).rows in let ps = places_of c.args.places.now in let i = c.loop-i.i in
     let e = held_variable n t ps i c.held.result c.requires.long c.loop-i-test.true c.held.ensures in
-    sym c.loop-i.invariant.0 ∙ first_stop is_some None NotFixed (held_from n 0 t ps) i (omega (arith, length_held n 0 t ps n c.requires.long, c.loop-i-test.true)) (ap is_some (e ∙ c.in-default.is))
+    sym c.loop-i.invariant.0 ∙ first_stop is_some None NotFixed (held_from n 0 t ps) i (omega (arith, length_held n 0 t ps n c.requires.long, c.loop-i-test.true)) (ap is_some (e ∙ c.in_default.is))
 
 pub loop-i-preserved : goal.loop-i-preserved
 loop-i-preserved c =

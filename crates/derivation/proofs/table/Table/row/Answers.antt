@@ -8,8 +8,8 @@ use Rattle.derivation.proofs.table.Table.row.Goals as goal
 below : (o : Table) (place : ℕ) → place < length (held_of o).rows → place < 512
 below o place h = omega (arith, h, rows_long o, o.few)
 
-pub offset-bounds-self-place : goal.offset-bounds-self-place
-offset-bounds-self-place c = let h = below c.args.self.now c.args.place c.requires in search rules
+pub offset_bounds-self-place : goal.offset_bounds-self-place
+offset_bounds-self-place c = let h = below c.args.self.now c.args.place c.requires in search rules
 
 pub listed : goal.listed
 listed c = omega (arith, below c.args.self.now c.args.place c.requires, c.args.self.now.long)

@@ -1,36 +1,29 @@
-use Rattle.std.proofs.Common.{◌≡◌, ◌+◌, ◌-◌, ◌<◌, List, map, reverse, get_or, take, sym, ap, ◌∙◌, ap₂, arith}
+use Rattle.std.proofs.Common.{◌-◌, ◌<◌, map, reverse, take, sym, ap, ◌∙◌, ap₂, arith}
 use Rattle.std.proofs.lemmas.List.{length-set}
 use Rattle.terms.specs.Stored.{row_of, wholes}
 use Rattle.derivation.specs.TableView.{shut_by}
 use Rattle.derivation.proofs.Stacks.{given_kept}
-use Rattle.derivation.proofs.TableShut.{given_below, has_opposite, heights_are, stack_kept, table_is, within_table}
+use Rattle.derivation.proofs.TableShut.{given_below, has_opposite, heights_are, stack_kept, table_is}
 use Rattle.derivation.proofs.table.Table.shut.Goals as goal
 
 pub unreachable-requires : goal.unreachable-requires
 unreachable-requires c =
     let o = c.args.self.now in let some : 0 < o.waiting = omega (arith, c.if-self-eq0.false) in
-    has_opposite o some c.newest-height.result c.newest-height.ensures.value c.index-self-height.result c.opposite.result c.in-default.is c.opposite.ensures
+    has_opposite o some c.newest-height.result c.newest-height.ensures.value c.index-self-height.result c.opposite.result c.in_default.is c.opposite.ensures
 
-pub invariant-of-self-2 : goal.invariant-of-self-2
-invariant-of-self-2 c =
+pub invariant_of-self-2 : goal.invariant_of-self-2
+invariant_of-self-2 c =
     let o = c.args.self.now in let some : 0 < o.waiting = omega (arith, c.if-self-eq0.false) in
     let h = c.newest-height.result in let s = c.in-Some.opposite in
-    let e = sym (ap wholes c.in-Some.is) ∙ c.opposite.ensures in (
-      o.narrow,
-      (
-        length-set o.rows h s ∙ o.long,
-        (
-          omega (arith, c.newest-height.ensures.bound, o.few),
-          (
-            o.tall,
-            (
-              omega (arith, o.less),
-              (stack_kept o some h c.newest-height.ensures.value c.index-self-height.result s e, tt),
-            ),
-          ),
-        ),
-      ),
-    )
+    let e = sym (ap wholes c.in-Some.is) ∙ c.opposite.ensures in
+    record {
+      narrow = o.narrow;
+      long = length-set o.rows h s ∙ o.long;
+      few = omega (arith, c.newest-height.ensures.bound, o.few);
+      tall = o.tall;
+      less = omega (arith, o.less);
+      stack = stack_kept o some h c.newest-height.ensures.value c.index-self-height.result s e;
+    }
 
 pub returns : goal.returns
 returns c =

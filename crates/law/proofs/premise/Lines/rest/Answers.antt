@@ -7,6 +7,6 @@ pub returns : goal.returns
 returns c =
     let ls = c.args.self.now in let bs = ls.bytes.now in
     record {
-      lines = ap₂ lines_from c.saturating-sub.ensures (c.bytes-from.ensures ∙ ap (λ k. drop (5 + 4 * k) bs) c.byte-at.ensures) ∙ lines_after ls.count bs;
-      count = c.saturating-sub.ensures;
+      lines = ap₂ lines_from c.saturating_sub.ensures (c.bytes_from.ensures ∙ ap (λ k. drop (5 + 4 * k) bs) c.byte_at.ensures) ∙ lines_after ls.count bs;
+      count = c.saturating_sub.ensures;
     }

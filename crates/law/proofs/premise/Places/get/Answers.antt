@@ -5,8 +5,8 @@ use Rattle.law.specs.Spelt.{places_in}
 use Rattle.law.proofs.PremisesRead.{place_there, places_long}
 use Rattle.law.proofs.premise.Places.get.Goals as goal
 
-pub overflow-mul-index : goal.overflow-mul-index
-overflow-mul-index c =
+pub overflow_mul-index : goal.overflow_mul-index
+overflow_mul-index c =
     let bs = c.args.self.now.bytes.now in
     let l : length bs < 2 ^ 64 = search rules in
     omega (arith, places_long (length bs / 2) bs, c.len.ensures, c.if-index-len.true)
@@ -14,7 +14,7 @@ overflow-mul-index c =
 pub returns-then-index-len : goal.returns-then-index-len
 returns-then-index-len c =
     let bs = c.args.self.now.bytes.now in let i = c.args.index in
-    c.first-u16.ensures ∙ ap nat16 c.bytes-from.ensures ∙ sym (place_there bs i (omega (arith, c.len.ensures, c.if-index-len.true)))
+    c.first_u16.ensures ∙ ap nat16 c.bytes_from.ensures ∙ sym (place_there bs i (omega (arith, c.len.ensures, c.if-index-len.true)))
 
 pub returns-else-index-len : goal.returns-else-index-len
 returns-else-index-len c =

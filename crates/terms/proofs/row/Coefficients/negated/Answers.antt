@@ -25,10 +25,10 @@ loop-i-preserved c =
 all_turned : (i : ℕ) (items xs : List ℤ) → 16 ≤ i → length items ≡ 16 → length xs ≡ 16 → take i items ≡ negated (take i xs) → items ≡ negated xs
 all_turned i items xs h l m e = sym (take_all i items (omega arith)) ∙ e ∙ ap negated (take_all i xs (omega arith))
 
-pub invariant-of-result : goal.invariant-of-result
-invariant-of-result c =
+pub invariant_of-result : goal.invariant_of-result
+invariant_of-result c =
     let e = all_turned c.loop-i.i c.loop-i.items c.args.self.now.items c.loop-i-test.false c.loop-i.invariant.1 c.args.self.now.long c.loop-i.invariant.0 in
-    (c.loop-i.invariant.1, (subst⁻¹ Small e (negated_small c.args.self.now.items c.args.self.now.small), tt))
+    record { long = c.loop-i.invariant.1; small = subst⁻¹ Small e (negated_small c.args.self.now.items c.args.self.now.small) }
 
 pub returns : goal.returns
 returns c = all_turned c.loop-i.i c.loop-i.items c.args.self.now.items c.loop-i-test.false c.loop-i.invariant.1 c.args.self.now.long c.loop-i.invariant.0

@@ -1,4 +1,4 @@
-use Rattle.std.proofs.Common.{◌≡◌, ℕ, ◌≤◌, length, get_or, take, pos, nat_abs}
+use Rattle.std.proofs.Common.{◌≡◌, length, take}
 use Rattle.terms.specs.Rows.{negated}
 use Rattle.terms.proofs.row.Coefficients.negated.Given as goal
 

@@ -1,4 +1,4 @@
-use Rattle.std.proofs.Common.{◌≡◌, ◌∙◌, ap₂, w64, SFits, rules}
+use Rattle.std.proofs.Common.{◌∙◌, ap₂, w64, SFits, rules}
 use lib.Signed.{le_z}
 use Rattle.std.proofs.lemmas.Int.{to_z-of_z}
 use Rattle.terms.proofs.row.Row.is_met.Goals as goal

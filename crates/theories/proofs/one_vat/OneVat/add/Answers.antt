@@ -1,4 +1,4 @@
-use Rattle.std.proofs.Common.{◌≡◌, ℕ, ◌<◌, ◌≤◌, ◌&&◌, ltb, leb, [], ◌∷◌, length, take, None, sym, ap, ◌∙◌, arith}
+use Rattle.std.proofs.Common.{◌≡◌, ℕ, ◌<◌, ◌≤◌, ◌&&◌, ltb, leb, [], None, ap, ◌∙◌, arith}
 use Rattle.std.proofs.lemmas.List.{length-set, length-take-le}
 use Rattle.std.proofs.lemmas.Bool.{and_parts, leb-true, ltb-true}
 use Rattle.terms.specs.declared.fault.Cause.TheVariants.{Full, OutOfRange}
@@ -27,23 +27,20 @@ joins n b e =
       room = ltb-true n 16 (unless_passed (ltb n 16) Full 0 r.0);
     }
 
-pub invariant-of-self : goal.invariant-of-self
-invariant-of-self c =
+pub invariant_of-self : goal.invariant_of-self
+invariant_of-self c =
     let o = c.args.self.now in let b = c.args.batch in
-    let j = joins o.count b (passed _ _ _ c.in-ok-check-batch.ensures).0 in (
-      length-set o.batches o.count b ∙ o.long,
-      (
-        omega (arith, j.room),
-        (
-          at_set (λ (x : Batch). x.start ≤ 15) o.batches o.count b no_batch j.placed o.placed,
-          (at_set (λ (x : Batch). x.duration ≤ 1000000) o.batches o.count b no_batch j.limited o.limited, tt),
-        ),
-      ),
-    )
+    let j = joins o.count b (passed _ _ _ c.in_ok-check_batch.ensures).0 in
+    record {
+      long = length-set o.batches o.count b ∙ o.long;
+      few = omega (arith, j.room);
+      placed = at_set (λ (x : Batch). x.start ≤ 15) o.batches o.count b no_batch j.placed o.placed;
+      limited = at_set (λ (x : Batch). x.duration ≤ 1000000) o.batches o.count b no_batch j.limited o.limited;
+    }
 
 pub returns : goal.returns
 returns c =
     let o = c.args.self.now in let b = c.args.batch in
-    let e : first_fault (batch_checks o.count b) ≡ None = (passed _ _ _ c.in-ok-check-batch.ensures).0 in
+    let e : first_fault (batch_checks o.count b) ≡ None = (passed _ _ _ c.in_ok-check_batch.ensures).0 in
     let l = length-take-le o.count o.batches (omega (arith, o.few, o.long)) in
     pushed_as _ o.batches o.count b (omega (arith, (joins o.count b e).room, o.long)) (ap (λ n. first_fault (batch_checks n b)) l ∙ e)

@@ -1,4 +1,4 @@
-use Rattle.std.proofs.Common.{◌≡◌, ℕ, ◌<◌, ◌≤◌, ltb, leb, [], ◌∷◌, None, ap, ◌∙◌, arith}
+use Rattle.std.proofs.Common.{◌≡◌, ℕ, ◌<◌, ◌≤◌, ltb, leb, [], None, ap, ◌∙◌, arith}
 use Rattle.std.proofs.lemmas.List.{length-set, length-take-le}
 use Rattle.std.proofs.lemmas.Bool.{leb-true, ltb-true}
 use Rattle.terms.specs.declared.fault.Cause.TheVariants.{Full, OutOfRange}
@@ -29,26 +29,21 @@ joins n c e =
       room = ltb-true n 16 (unless_passed (ltb n 16) Full 0 s.0);
     }
 
-pub invariant-of-self : goal.invariant-of-self
-invariant-of-self c =
+pub invariant_of-self : goal.invariant_of-self
+invariant_of-self c =
     let o = c.args.self.now in let a = c.args.call in
-    let j = joins o.count a (passed _ _ _ c.in-ok-check-call.ensures).0 in (
-      length-set o.calls o.count a ∙ o.long,
-      (
-        omega (arith, j.room),
-        (
-          at_set (λ (x : Call). x.first ≤ 15) o.calls o.count a no_call j.first o.firsts,
-          (
-            at_set (λ (x : Call). x.second ≤ 16) o.calls o.count a no_call j.second o.seconds,
-            (at_set (λ (x : Call). x.result ≤ 15) o.calls o.count a no_call j.result o.results, tt),
-          ),
-        ),
-      ),
-    )
+    let j = joins o.count a (passed _ _ _ c.in_ok-check_call.ensures).0 in
+    record {
+      long = length-set o.calls o.count a ∙ o.long;
+      few = omega (arith, j.room);
+      firsts = at_set (λ (x : Call). x.first ≤ 15) o.calls o.count a no_call j.first o.firsts;
+      seconds = at_set (λ (x : Call). x.second ≤ 16) o.calls o.count a no_call j.second o.seconds;
+      results = at_set (λ (x : Call). x.result ≤ 15) o.calls o.count a no_call j.result o.results;
+    }
 
 pub returns : goal.returns
 returns c =
     let o = c.args.self.now in let a = c.args.call in
-    let e : first_fault (call_checks o.count a) ≡ None = (passed _ _ _ c.in-ok-check-call.ensures).0 in
+    let e : first_fault (call_checks o.count a) ≡ None = (passed _ _ _ c.in_ok-check_call.ensures).0 in
     let l = length-take-le o.count o.calls (omega (arith, o.few, o.long)) in
     pushed_as _ o.calls o.count a (omega (arith, (joins o.count a e).room, o.long)) (ap (λ n. first_fault (call_checks n a)) l ∙ e)
