@@ -1,7 +1,7 @@
 -- What the checks of a line's numbers and places say of it, and the row that it makes.
 use Rattle.std.proofs.Common.{◌≡◌, ℕ, ◌<◌, ◌≤◌, Bool, true, ltb, leb, List, [], ◌∷◌, map, length, get_or, pos, ◌+ℤ◌, ◌*ℤ◌, Some, None, sym, refl, ap, ◌∙◌, ap₂, ⊎_elim, arith}
 use mathlib.Core.Path.{subst⁻¹}
-use Rattle.std.specs.List.{AllByRecursion as All}
+use Rattle.std.specs.List.{AllByRecursion}
 use Rattle.std.proofs.ByRecursion.{All-get_or}
 use Rattle.std.proofs.lemmas.List.{get_or-map, get_or_past, get_or-take, length-map, take-map}
 use Rattle.std.proofs.lemmas.Bool.{and_parts, cases_lt, leb-true, ltb-true}
@@ -78,13 +78,13 @@ module _ (count : ℕ) (ps : List Premise) (e : first_unless NoSuchPlace 0 (map 
 row_front : (n count : ℕ) (rows : List Stored) (place : ℕ) → place < count → row_at (table_of n count rows) place ≡ row_at (map (row_of n) rows) place
 row_front n count rows place h = ap (λ t. row_at t place) (sym (take-map (row_of n) count rows)) ∙ get_or-take count (map (row_of n) rows) place no_row h
 
-front_summed : (n count : ℕ) (rows : List Stored) (ps : List Premise) → All (λ (q : Premise). ltb q.place count ≡ true) ps → summed (table_of n count rows) ps ≡ summed (map (row_of n) rows) ps
+front_summed : (n count : ℕ) (rows : List Stored) (ps : List Premise) → AllByRecursion (λ (q : Premise). ltb q.place count ≡ true) ps → summed (table_of n count rows) ps ≡ summed (map (row_of n) rows) ps
 front_summed n count rows [] h = refl
 front_summed n count rows (p ∷ ps) h =
     ap₂ (λ (r s : Row). record { coefficients = plus (times (pos p.multiplier) r.coefficients) s.coefficients; right = pos p.multiplier *ℤ r.right +ℤ s.right })
     (row_front n count rows p.place (ltb-true p.place count h.0)) (front_summed n count rows ps h.1)
 
-all_below : (count : ℕ) (ps : List Premise) → All Yes (map (λ (q : Premise). ltb q.place count) ps) → All (λ (q : Premise). ltb q.place count ≡ true) ps
+all_below : (count : ℕ) (ps : List Premise) → AllByRecursion Yes (map (λ (q : Premise). ltb q.place count) ps) → AllByRecursion (λ (q : Premise). ltb q.place count ≡ true) ps
 all_below count [] h = tt
 all_below count (p ∷ ps) h = (h.0, all_below count ps h.1)
 

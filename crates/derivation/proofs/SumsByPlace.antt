@@ -1,6 +1,6 @@
 -- The sum of premises read place by place, for code that fills a row by index.
 use Rattle.std.proofs.Common.{◌≡◌, ℕ, zero, suc, ◌<◌, List, [], ◌∷◌, length, get_or, ℤ, pos, ◌+ℤ◌, ◌*ℤ◌, refl, ◌∙◌, ap₂, arith}
-use Rattle.std.specs.List.{AllByRecursion as All}
+use Rattle.std.specs.List.{AllByRecursion}
 use Rattle.std.proofs.ByRecursion.{All-get_or}
 use Rattle.std.proofs.lemmas.List.{length-map}
 use Rattle.std.proofs.lemmas.Int.{ints}
@@ -29,7 +29,7 @@ abbrev pub Wide : ℕ → Row → Type 0
 Wide n r = length r.coefficients ≡ n
 
 -- rows of n coefficients sum to a row of n
-pub summed_wide : (n : ℕ) (t : List Row) (p : Premise) (ps : List Premise) → All (Wide n) t → All (λ (q : Premise). q.place < length t) (p ∷ ps) → Wide n (summed t (p ∷ ps))
+pub summed_wide : (n : ℕ) (t : List Row) (p : Premise) (ps : List Premise) → AllByRecursion (Wide n) t → AllByRecursion (λ (q : Premise). q.place < length t) (p ∷ ps) → Wide n (summed t (p ∷ ps))
 summed_wide n t p [] h l =
     let e = All-get_or (Wide n) t p.place no_row l.0 h in
     length-plus (times (pos p.multiplier) (row_at t p.place).coefficients) []

@@ -1,7 +1,7 @@
 -- Sums that grow by one premise after another, and stay small enough for 64 bits.
 use Rattle.std.proofs.Common.{◌≡◌, ℕ, ◌+◌, ◌*◌, ◌^◌, ◌<◌, ◌≤◌, List, [], ◌∷◌, map, length, get_or, take, drop, replicate, ℤ, pos, ◌+ℤ◌, ◌*ℤ◌, nat_abs, sym, refl, ap, ◌∙◌, ap₂, ⊎_elim, add-mul, mul-le-mul, arith, w32, w64, SFits, to_z, of_z}
 use mathlib.Core.Path.{subst⁻¹}
-use Rattle.std.specs.List.{AllByRecursion as All}
+use Rattle.std.specs.List.{AllByRecursion}
 use Rattle.std.proofs.ByRecursion.{All-from_get_or}
 use Rattle.std.proofs.lemmas.List.{drop_all, drop_more, ext_get_or, get_or-map, get_or_past, get_or-replicate, get_or-take, length-take-le}
 use Rattle.std.proofs.lemmas.Int.{ints, to_z-of_z, to_z_pos}
@@ -119,19 +119,19 @@ limited_stored n r = record { small = at_front (λ z. nat_abs z ≤ 1000000) n r
 pub limited_there : (n : ℕ) (rows : List Stored) (place : ℕ) (d : Stored) → place < length rows → Limited (row_at (map (row_of n) rows) place)
 limited_there n rows place d h = subst⁻¹ Limited (row_there n rows place d h) (limited_stored n (get_or rows place d))
 
-pub rows_wide : (n : ℕ) (rows : List Stored) → n ≤ 16 → All (Wide n) (map (row_of n) rows)
+pub rows_wide : (n : ℕ) (rows : List Stored) → n ≤ 16 → AllByRecursion (Wide n) (map (row_of n) rows)
 rows_wide n [] h = tt
 rows_wide n (r ∷ rows) h = (length-take-le n r.coefficients.items (omega (arith, r.coefficients.long)), rows_wide n rows h)
 
 -- ---- all premises summed
-wide_sum : (n : ℕ) (t : List Row) (ps : List Premise) → 0 < length ps → All (Wide n) t → All (λ (q : Premise). q.place < length t) ps → Wide n (summed t ps)
+wide_sum : (n : ℕ) (t : List Row) (ps : List Premise) → 0 < length ps → AllByRecursion (Wide n) t → AllByRecursion (λ (q : Premise). q.place < length t) ps → Wide n (summed t ps)
 wide_sum n t [] h w l = absurd (omega arith)
 wide_sum n t (p ∷ ps) h w l = summed_wide n t p ps w l
 
 none_left : (a b total : ℤ) → b ≡ pos 0 → a +ℤ b ≡ total → a ≡ total
 none_left a b total e f = omega (arith, ints)
 
-pub summing_all : (n : ℕ) (t : List Row) (ps : List Premise) (i : ℕ) (cs : List ℤ) {right : ℤ} → n ≤ 16 → 0 < length ps → length ps ≤ i → All (Wide n) t → ((k : ℕ) → (get_or ps k no_premise).place < length t) →
+pub summing_all : (n : ℕ) (t : List Row) (ps : List Premise) (i : ℕ) (cs : List ℤ) {right : ℤ} → n ≤ 16 → 0 < length ps → length ps ≤ i → AllByRecursion (Wide n) t → ((k : ℕ) → (get_or ps k no_premise).place < length t) →
     Summing n t ps i cs right → record { coefficients = take n cs; right = right } ≡ summed t ps
 summing_all n t ps i cs {right} h some end w places s =
     let none = drop_all i ps end in

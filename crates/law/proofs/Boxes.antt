@@ -1,6 +1,6 @@
 -- Tables with rows of +1 and of -1 at one variable alone.
 use Rattle.std.proofs.Common.{◌≡◌, ℕ, zero, suc, ◌+◌, ◌*◌, ◌<◌, ◌≤◌, Bool, true, ◌&&◌, ltb, List, [], ◌∷◌, ◌++◌, map, length, replicate, ℤ, pos, neg_ℤ, nat_abs, is_some, Some, None, refl, ap, ◌∙◌, ap₂, arith}
-use Rattle.std.specs.List.{ContainsAt as Has, AllByRecursion as All}
+use Rattle.std.specs.List.{ContainsAt as Has, AllByRecursion}
 use Rattle.std.proofs.ByRecursion.{has_append_left}
 use Rattle.std.proofs.lemmas.Bool.{and_from, cond-true, lt-ltb}
 use Rattle.terms.specs.Integers.{eq_z, eq_zs}
@@ -43,11 +43,11 @@ pub fixed_push : (n : ℕ) (t : List Row) (r : Row) (i : ℕ) → Fixed n t i �
 fixed_push n t r i f = record { value = f.value; above = has_append_left t (r ∷ []) _ f.above; below = has_append_left t (r ∷ []) _ f.below; near = f.near }
 
 -- ---- tests of a unit
-pub yes_zeros : (f : ℤ → Bool) (m : ℕ) → f (pos 0) ≡ true → All Yes (map f (replicate m (pos 0)))
+pub yes_zeros : (f : ℤ → Bool) (m : ℕ) → f (pos 0) ≡ true → AllByRecursion Yes (map f (replicate m (pos 0)))
 yes_zeros f zero h = tt
 yes_zeros f (suc m) h = (h, yes_zeros f m h)
 
-pub yes_unit : (f : ℤ → Bool) (n i : ℕ) → f (pos 0) ≡ true → f (pos 1) ≡ true → All Yes (map f (unit n i))
+pub yes_unit : (f : ℤ → Bool) (n i : ℕ) → f (pos 0) ≡ true → f (pos 1) ≡ true → AllByRecursion Yes (map f (unit n i))
 yes_unit f zero i h k = tt
 yes_unit f (suc n) zero h k = (k, yes_zeros f n h)
 yes_unit f (suc n) (suc i) h k = (h, yes_unit f n i h k)
@@ -67,10 +67,10 @@ held n i t f =
 pub record Places (n : ℕ) (t : List Row) (i m : ℕ) : Type 0 where
   pub list : List ℕ
   pub twice : length list ≡ 2 * m
-  pub there : All Yes (map (λ p. ltb p (length t)) list)
-  pub holding : All Yes (map is_some (held_from n i t list))
+  pub there : AllByRecursion Yes (map (λ p. ltb p (length t)) list)
+  pub holding : AllByRecursion Yes (map is_some (held_from n i t list))
   pub long : length (map value_of (held_from n i t list)) ≡ m
-  pub small : All Yes (map (within million) (map value_of (held_from n i t list)))
+  pub small : AllByRecursion Yes (map (within million) (map value_of (held_from n i t list)))
 
 pub places : (n : ℕ) (t : List Row) (m i : ℕ) → i + m ≡ n → ((k : ℕ) → i ≤ k → k < n → Fixed n t k) → Places n t i m
 places n t zero i e f = record { list = []; twice = refl; there = tt; holding = tt; long = refl; small = tt }

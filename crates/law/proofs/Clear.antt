@@ -1,6 +1,6 @@
 -- Checks of which none applies, and tests that all pass.
 use Rattle.std.proofs.Common.{◌≡◌, ℕ, ◌+◌, Bool, true, false, List, [], ◌∷◌, ℤ, Some, None, Option, refl, ap, ap₂}
-use Rattle.std.specs.List.{AllByRecursion as All}
+use Rattle.std.specs.List.{AllByRecursion}
 use Rattle.std.proofs.lemmas.Bool.{and_from, and_parts, false≢true}
 use Rattle.terms.specs.declared.fault.Cause.{Cause}
 use Rattle.terms.specs.declared.fault.Fault.{Fault}
@@ -18,12 +18,12 @@ abbrev pub Yes : Bool → Type 0
 Yes b = b ≡ true
 
 -- ---- lists of checks
-pub all_clear : (cs : List (Option Fault)) → first_fault cs ≡ None → All Clear cs
+pub all_clear : (cs : List (Option Fault)) → first_fault cs ≡ None → AllByRecursion Clear cs
 all_clear [] e = tt
 all_clear (Some f ∷ cs) e = clash (cc)
 all_clear (None ∷ cs) e = (refl, all_clear cs e)
 
-pub none_first : (cs : List (Option Fault)) → All Clear cs → first_fault cs ≡ None
+pub none_first : (cs : List (Option Fault)) → AllByRecursion Clear cs → first_fault cs ≡ None
 none_first [] h = refl
 none_first (Some f ∷ cs) h = h.0
 none_first (None ∷ cs) h = none_first cs h.1
@@ -36,22 +36,22 @@ line_clear k None e = refl
 pub unless_clear : (cause : Cause) (spot : ℕ) {b : Bool} → b ≡ true → unless b cause spot ≡ None
 unless_clear cause spot e = ap (λ t. unless t cause spot) e
 
-pub first_passed : (cause : Cause) (spot : ℕ) (bs : List Bool) → first_unless cause spot bs ≡ None → All Yes bs
+pub first_passed : (cause : Cause) (spot : ℕ) (bs : List Bool) → first_unless cause spot bs ≡ None → AllByRecursion Yes bs
 first_passed cause spot [] e = tt
 first_passed cause spot (true ∷ bs) e = (refl, first_passed cause (spot + 1) bs e)
 first_passed cause spot (false ∷ bs) e = clash (cc)
 
-pub first_clear : (cause : Cause) (spot : ℕ) (bs : List Bool) → All Yes bs → first_unless cause spot bs ≡ None
+pub first_clear : (cause : Cause) (spot : ℕ) (bs : List Bool) → AllByRecursion Yes bs → first_unless cause spot bs ≡ None
 first_clear cause spot [] h = refl
 first_clear cause spot (true ∷ bs) h = first_clear cause (spot + 1) bs h.1
 first_clear cause spot (false ∷ bs) h = absurd (false≢true h.0)
 
 -- ---- tests
-pub every_yes : (bs : List Bool) → every bs ≡ true → All Yes bs
+pub every_yes : (bs : List Bool) → every bs ≡ true → AllByRecursion Yes bs
 every_yes [] e = tt
 every_yes (b ∷ bs) e = let h = and_parts b (every bs) e in (h.0, every_yes bs h.1)
 
-pub yes_every : (bs : List Bool) → All Yes bs → every bs ≡ true
+pub yes_every : (bs : List Bool) → AllByRecursion Yes bs → every bs ≡ true
 yes_every [] h = refl
 yes_every (b ∷ bs) h = and_from b (every bs) h.0 (yes_every bs h.1)
 

@@ -2,7 +2,7 @@
 use Rattle.std.proofs.Common.{◌≡◌, ℕ, zero, suc, ◌+◌, ◌*◌, ◌^◌, ◌<◌, ◌≤◌, Bool, true, false, not, ◌||◌, ltb, List, [], ◌∷◌, ◌++◌, map, length, replicate, ℤ, pos, ◌+ℤ◌, ◌-ℤ◌, ◌*ℤ◌, neg_ℤ, ◌<ℤ◌, Some, None, Option, sym, refl, ap, ◌∙◌, subst, ap₂, ⊎_elim, arith, pow_pos}
 use mathlib.Core.Path.{subst⁻¹}
 use lib.Signed.{lt_z}
-use Rattle.std.specs.List.{ContainsAt as Has, AllByRecursion as All}
+use Rattle.std.specs.List.{ContainsAt as Has, AllByRecursion}
 use Rattle.std.proofs.ByRecursion.{has_append_left, has_push}
 use Rattle.std.proofs.lemmas.List.{get_or_push, length_push}
 use Rattle.std.proofs.lemmas.Int.{by_lt_z, ints}
@@ -40,13 +40,13 @@ cancelled (c ∷ cs) = ap₂ ◌∷◌ (omega (arith, ints)) (ap (plus (times (p
     plus_nil [] = refl
     plus_nil (b ∷ bs) = refl
 
-yes_floors : (g : ℤ → Bool) (m : ℕ) → g (pos 0) ≡ true → All Yes (map g (map (λ c. floor c 1) (replicate m (pos 0))))
+yes_floors : (g : ℤ → Bool) (m : ℕ) → g (pos 0) ≡ true → AllByRecursion Yes (map g (map (λ c. floor c 1) (replicate m (pos 0))))
 yes_floors g zero h = tt
 yes_floors g (suc m) h = (h, yes_floors g m h)
 
 module _ (j : Job) (th : Meaning (List ℕ)) where
   -- ---- at a point
-  pin_clear : (t : List Row) (taken : Option Plan) (p : Places (size j) t 0 (size j)) → shuts_at j th t taken (point (size j) t p.list) ≡ true → All Clear (pin_checks j th t taken p.list)
+  pin_clear : (t : List Row) (taken : Option Plan) (p : Places (size j) t 0 (size j)) → shuts_at j th t taken (point (size j) t p.list) ≡ true → AllByRecursion Clear (pin_checks j th t taken p.list)
   pin_clear t taken p s =
       (unless_clear WrongLength 0 (eq-eqb _ _ p.twice), (first_clear NoSuchPlace 0 _ p.there, (first_clear NotFixed 0 _ p.holding, (unless_clear PointStaysOpen 0 s, tt))))
 
@@ -107,9 +107,9 @@ module _ (j : Job) (th : Meaning (List ℕ)) where
               (
                 first_clear NoSuchPlace 0 (map (λ k. ltb k (length t)) (p.place ∷ q.place ∷ [])) (lt-ltb _ _ f.above.1, (lt-ltb _ _ f.below.1, tt)),
                 (
-                  first_clear NotDivisible 0 _ (subst⁻¹ (λ cs. All Yes (map (divides 1) cs)) coefficients-are (yes_zeros (divides 1) m refl)),
+                  first_clear NotDivisible 0 _ (subst⁻¹ (λ cs. AllByRecursion Yes (map (divides 1) cs)) coefficients-are (yes_zeros (divides 1) m refl)),
                   (
-                    first_clear RowTooLarge 0 _ (subst⁻¹ (λ cs. All Yes (map (within million) (map (λ c. floor c 1) cs))) coefficients-are (yes_floors (within million) m refl)),
+                    first_clear RowTooLarge 0 _ (subst⁻¹ (λ cs. AllByRecursion Yes (map (within million) (map (λ c. floor c 1) cs))) coefficients-are (yes_floors (within million) m refl)),
                     (unless_clear RowTooLarge 16 (ap (within right_limit) made-right ∙ within_from right_limit (f.most +ℤ f.least) (omega (arith, ints))), tt),
                   ),
                 ),
@@ -126,7 +126,7 @@ module _ (j : Job) (th : Meaning (List ℕ)) where
           (
             unless_clear NotContradiction 0 (ap contradiction last
                 ∙ and_from (all_zero new.coefficients) (lt_z new.right (pos 0))
-                (yes_every _ (subst⁻¹ (λ cs. All Yes (map (eq_z (pos 0)) (map (λ c. floor c 1) cs))) coefficients-are (yes_floors (eq_z (pos 0)) m refl)))
+                (yes_every _ (subst⁻¹ (λ cs. AllByRecursion Yes (map (eq_z (pos 0)) (map (λ c. floor c 1) cs))) coefficients-are (yes_floors (eq_z (pos 0)) m refl)))
                 (ap (λ z. lt_z z (pos 0)) made-right ∙ sym (omega (arith, ints)))),
             tt,
           ),
@@ -151,7 +151,7 @@ module _ (j : Job) (th : Meaning (List ℕ)) where
     job = λ x h. y.job x (front x t (r ∷ []) h);
   }
 
-  branch_clear : (t : List Row) (i : ℕ) (v : ℤ) → length t < 512 → Near v → All Clear (branch_checks (size j) t (high (size j) i v))
+  branch_clear : (t : List Row) (i : ℕ) (v : ℤ) → length t < 512 → Near v → AllByRecursion Clear (branch_checks (size j) t (high (size j) i v))
   branch_clear t i v small near = (
     unless_clear WrongLength 0 (eq-eqb _ _ (length-unit (size j) i)),
     (

@@ -4,7 +4,7 @@ use mathlib.Core.Path.{subst⁻¹}
 use mathlib.Core.List.{nil≢cons, cons≢nil, head-eq_of_cons-eq, tail-eq_of_cons-eq}
 use native.Mathlib.Nat.{div-add-mod}
 use lib.Signed.{shr_z}
-use Rattle.std.specs.List.{AllByRecursion as All}
+use Rattle.std.specs.List.{AllByRecursion}
 use Rattle.std.proofs.lemmas.Int.{by_lt_z, ints}
 use Rattle.terms.proofs.Integers.{*ℤ-+ℤ, eq_z_true, floor_le, times_le}
 use Rattle.law.specs.Lines.{divides, floor, times}
@@ -31,7 +31,7 @@ floor-by_one (pos a) = omega (arith, ints, div-one a)
 floor-by_one (negsuc a) = omega (arith, ints, div-one a)
 
 -- coefficients that are all divided without remainder
-pub divided_back : (d : ℕ) (cs : List ℤ) → All Yes (map (divides d) cs) → times (pos d) (map (λ c. floor c d) cs) ≡ cs
+pub divided_back : (d : ℕ) (cs : List ℤ) → AllByRecursion Yes (map (divides d) cs) → times (pos d) (map (λ c. floor c d) cs) ≡ cs
 divided_back d [] h = refl
 divided_back d (c ∷ cs) h = ap₂ ◌∷◌ (eq_z_true (pos d *ℤ floor c d) c h.0) (divided_back d cs h.1)
 

@@ -1,7 +1,7 @@
 -- A plan that lies in a table meets every row that a line or a rule makes of it.
 use Rattle.std.proofs.Common.{◌≡◌, ℕ, zero, suc, ◌+◌, ◌<◌, Bool, true, false, cond, eqb, leb, List, [], ◌∷◌, ◌++◌, map, length, ℤ, pos, ◌≤ℤ◌, Some, None, Option, refl, ap, arith}
 use lib.Signed.{le_z}
-use Rattle.std.specs.List.{zip, AllByRecursion as All}
+use Rattle.std.specs.List.{zip, AllByRecursion}
 use Rattle.std.proofs.ByRecursion.{All-push}
 use Rattle.std.proofs.lemmas.Int.{ints}
 use Rattle.std.proofs.lemmas.Bool.{and_parts, eqb-true, false≢true, leb-true}
@@ -43,7 +43,7 @@ sum_met x t (p ∷ ps) h =
       sum_met x t ps h,
     )
 
-quotient_met : (x : Plan) (d : ℕ) (cs : List ℤ) (r : ℤ) → 0 < d → All Yes (map (divides d) cs) → dot cs x ≤ℤ r → dot (map (λ c. floor c d) cs) x ≤ℤ floor r d
+quotient_met : (x : Plan) (d : ℕ) (cs : List ℤ) (r : ℤ) → 0 < d → AllByRecursion Yes (map (divides d) cs) → dot cs x ≤ℤ r → dot (map (λ c. floor c d) cs) x ≤ℤ floor r d
 quotient_met x d cs r p h m =
     let e = dot-times (pos d) (map (λ c. floor c d) cs) x in
     let back = ap (λ ds. dot ds x) (divided_back d cs h) in
@@ -58,10 +58,10 @@ made_met x t l h e f =
     let s = summed t l.premises in
     quotient_met x l.divisor s.coefficients s.right (divisor_positive l e) (first_passed NotDivisible 0 (map (divides l.divisor) s.coefficients) f) (sum_met x t l.premises h)
 
-pub cut_met : (x : Plan) (t : List Row) (l : Line) → LiesIn t x → All Clear (cut_checks t l) → Meets x (made t l)
+pub cut_met : (x : Plan) (t : List Row) (l : Line) → LiesIn t x → AllByRecursion Clear (cut_checks t l) → Meets x (made t l)
 cut_met x t l h f = made_met x t l h f.1.1.0 f.1.1.1.1.1.0
 
-pub chain_met : (x : Plan) (before : Row) (k : ℕ) (t : List Row) (ls : List Line) → Meets x before → LiesIn t x → All Clear (lines_checks k t ls) → Meets x (last_made before t ls)
+pub chain_met : (x : Plan) (before : Row) (k : ℕ) (t : List Row) (ls : List Line) → Meets x before → LiesIn t x → AllByRecursion Clear (lines_checks k t ls) → Meets x (last_made before t ls)
 chain_met x before k t [] m h e = m
 chain_met x before k t (l ∷ ls) m h e =
     let f = all_clear (line_checks t l) (line_clear k _ e.0) in
@@ -90,12 +90,12 @@ shown_by n t d place x false long h is s =
     let low = at_most_lem d.most (bound cs (row_at t place)) (dot cs x) s (λ v e. bound_met cs (row_at t place) x v e (place_met x t place h)) in
     omega (arith, ints, dot-difference n d x long)
 
-premises_hold : (n : ℕ) (t : List Row) (ds : List Difference) (places : List ℕ) (x : Plan) → length x ≡ n → LiesIn t x → length places ≡ length ds → All Yes (map (λ q. shown_at n t q.0 q.1) (zip ds places)) → All (Holds x) ds
+premises_hold : (n : ℕ) (t : List Row) (ds : List Difference) (places : List ℕ) (x : Plan) → length x ≡ n → LiesIn t x → length places ≡ length ds → AllByRecursion Yes (map (λ q. shown_at n t q.0 q.1) (zip ds places)) → AllByRecursion (Holds x) ds
 premises_hold n t [] places x e h l s = tt
 premises_hold n t (d ∷ ds) [] x e h l s = absurd (omega arith)
 premises_hold n t (d ∷ ds) (p ∷ ps) x e h l s = (shown_by n t d p x (empty n d) e h refl s.0, premises_hold n t ds ps x e h (omega arith) s.1)
 
-inferred_by : (j : Job) (th : Meaning (List ℕ)) (t : List Row) (places : List ℕ) (x : Plan) → Model j th x → LiesIn t x → (o : Option Rule) → IfAny th.admits o → All Clear (rule_checks (size j) t o places) → Meets x (rule_row (size j) o)
+inferred_by : (j : Job) (th : Meaning (List ℕ)) (t : List Row) (places : List ℕ) (x : Plan) → Model j th x → LiesIn t x → (o : Option Rule) → IfAny th.admits o → AllByRecursion Clear (rule_checks (size j) t o places) → Meets x (rule_row (size j) o)
 inferred_by j th t places x m h None law f = omega (arith, ints)
 inferred_by j th t places x m h (Some u) law f =
     let same : length places ≡ length u.premises = eqb-true _ _ (unless_passed (eqb (length places) (length u.premises)) WrongLength 0 f.1.0) in
@@ -103,5 +103,5 @@ inferred_by j th t places x m h (Some u) law f =
     let holds = law.holds x m.admitted (premises_hold (size j) t u.premises places x m.long h same shown) in
     omega (arith, ints, dot-difference (size j) u.conclusion x m.long)
 
-pub rule_met : (j : Job) (th : Meaning (List ℕ)) → Lawful th → (t : List Row) (clue places : List ℕ) (x : Plan) → Model j th x → LiesIn t x → All Clear (rule_checks (size j) t (th.rule clue) places) → Meets x (rule_row (size j) (th.rule clue))
+pub rule_met : (j : Job) (th : Meaning (List ℕ)) → Lawful th → (t : List Row) (clue places : List ℕ) (x : Plan) → Model j th x → LiesIn t x → AllByRecursion Clear (rule_checks (size j) t (th.rule clue) places) → Meets x (rule_row (size j) (th.rule clue))
 rule_met j th law t clue places x m h f = inferred_by j th t places x m h (th.rule clue) (law clue) f

@@ -1,7 +1,7 @@
 -- Every call keeps the models that are still wanted.
 use Rattle.std.proofs.Common.{◌≡◌, ℕ, ◌*◌, true, not, ◌||◌, eqb, List, [], ◌∷◌, map, length, pos, is_some, Some, None, Option, sym, refl, ap, ◌∙◌, subst, inl, inr, ⊎_elim, arith}
 use lib.Signed.{le_z, lt_z}
-use Rattle.std.specs.List.{AllByRecursion as All}
+use Rattle.std.specs.List.{AllByRecursion}
 use Rattle.std.proofs.ByRecursion.{All-push}
 use Rattle.std.proofs.lemmas.Int.{ints}
 use Rattle.std.proofs.lemmas.Bool.{and_parts, both_ways, eqb-true, not-true, or_cases}
@@ -26,11 +26,11 @@ use Rattle.law.proofs.Follows.{chain_met, cut_met, place_met, rule_met}
 use Rattle.law.proofs.Points.{is_point}
 
 -- ---- what a table's rows say as tests
-pub lies_yes : (x : Plan) (t : List Row) → LiesIn t x → All Yes (map (meets x) t)
+pub lies_yes : (x : Plan) (t : List Row) → LiesIn t x → AllByRecursion Yes (map (meets x) t)
 lies_yes x [] h = tt
 lies_yes x (r ∷ t) h = let m : Meets x r = h.0 in (sym (omega (arith, ints)), lies_yes x t h.1)
 
-pub yes_lies : (x : Plan) (t : List Row) → All Yes (map (meets x) t) → LiesIn t x
+pub yes_lies : (x : Plan) (t : List Row) → AllByRecursion Yes (map (meets x) t) → LiesIn t x
 yes_lies x [] h = tt
 yes_lies x (r ∷ t) h = let m : le_z (dot r.coefficients x) r.right ≡ true = h.0 in (omega (arith, ints), yes_lies x t h.1)
 
@@ -44,7 +44,7 @@ wanted_before j None y x c w = tt
 wanted_before j (Some z) y x c w = omega (arith, ints)
 
 -- ---- why a top may be shut
-not_at_contradiction : (t : List Row) (place : ℕ) (x : Plan) → LiesIn t x → All Clear (drop_checks t place) → ⊥
+not_at_contradiction : (t : List Row) (place : ℕ) (x : Plan) → LiesIn t x → AllByRecursion Clear (drop_checks t place) → ⊥
 not_at_contradiction t place x h f =
     let g = and_parts (all_zero (row_at t place).coefficients) (lt_z (row_at t place).right (pos 0)) (unless_passed (contradiction (row_at t place)) NotContradiction 0 f.1.0) in
     omega (arith, ints, place_met x t place h, dot_all_zero (row_at t place).coefficients x g.0)
@@ -57,13 +57,13 @@ module _ (j : Job) (th : Meaning (List ℕ)) where
       (or_cases (not (th.admits x)) (not (cheaper j taken x)) u))
       (or_cases (not (every (map (meets x) t))) (not (th.admits x) || not (cheaper j taken x)) s)
 
-  not_pinned : (t : List Row) (taken : Option Plan) (places : List ℕ) (x : Plan) → Model j th x → Wanted j taken x → LiesIn t x → All Clear (pin_checks j th t taken places) → ⊥
+  not_pinned : (t : List Row) (taken : Option Plan) (places : List ℕ) (x : Plan) → Model j th x → Wanted j taken x → LiesIn t x → AllByRecursion Clear (pin_checks j th t taken places) → ⊥
   not_pinned t taken places x m w h f =
       let long : length places ≡ 2 * size j = eqb-true _ _ (unless_passed (eqb (length places) (2 * size j)) WrongLength 0 f.0) in
       let same = is_point (size j) 0 t places x x m.long h (λ k. ap (reads x) (omega arith)) (long ∙ ap (λ n. 2 * n) (sym m.long)) (first_passed NotFixed 0 (map is_some (held_from (size j) 0 t places)) f.1.1.0) in
       not_at_shut-point t taken x m w h (ap (shuts_at j th t taken) same ∙ unless_passed (shuts_at j th t taken (point (size j) t places)) PointStaysOpen 0 f.1.1.1.0)
 
-  taken_is_model : (taken : Option Plan) (x : Plan) → All Clear (take_checks j th taken x) → Model j th x
+  taken_is_model : (taken : Option Plan) (x : Plan) → AllByRecursion Clear (take_checks j th taken x) → Model j th x
   taken_is_model taken x f = record {
     long = eqb-true _ _ (unless_passed (eqb (length x) (size j)) WrongLength 0 f.0);
     meets = yes_lies x j.rows (first_passed RowMissed 0 (map (meets x) j.rows) f.1.1.0);
@@ -93,7 +93,7 @@ module _ (j : Job) (th : Meaning (List ℕ)) where
 
 module _ (j : Job) (th : Meaning (List ℕ)) (law : Lawful th) where
   kept_moved : (t : Subproblem) (rest : List Subproblem) (taken : Option Plan) (c : Call) → Kept j th (moment (t ∷ rest) taken) →
-      All Clear (table_checks j th t taken c) → Kept j th (moved_top j th t rest taken c)
+      AllByRecursion Clear (table_checks j th t taken c) → Kept j th (moved_top j th t rest taken c)
   kept_moved t rest taken (branch r) k f = record {
     still_open = λ x m w. ⊎_elim
         (λ h. ⊎_elim (λ u. inl (All-push (Meets x) t r h u)) (λ u. inr (inl (All-push (Meets x) t (opposite r) h u))) (row_or_opposite r x))

@@ -1,6 +1,6 @@
 -- What the steps give is where the calls lead, and nowhere else.
 use Rattle.std.proofs.Common.{◌≡◌, ℕ, List, [], ◌∷◌, Some, None, Option, sym, refl, ap, ◌∙◌, subst}
-use Rattle.std.specs.List.{AllByRecursion as All}
+use Rattle.std.specs.List.{AllByRecursion}
 use Rattle.terms.specs.declared.fault.Fault.{Fault}
 use Rattle.terms.specs.Faults.{changed}
 use Rattle.terms.specs.Rows.{Plan, Row}
@@ -24,11 +24,11 @@ use Rattle.law.proofs.Quotients.{chain_chained, chain_once, cut_once, cut_quotie
 
 module _ (j : Job) (th : Meaning (List ℕ)) where
   -- ---- from the steps to the relation
-  rule_adds : (t : List Row) (taken : Option Plan) (clue places : List ℕ) (o : Option Rule) → th.rule clue ≡ o → All Clear (rule_checks (size j) t o places) → Adds j th t taken (infer clue places) (rule_row (size j) o)
+  rule_adds : (t : List Row) (taken : Option Plan) (clue places : List ℕ) (o : Option Rule) → th.rule clue ≡ o → AllByRecursion Clear (rule_checks (size j) t o places) → Adds j th t taken (infer clue places) (rule_row (size j) o)
   rule_adds t taken clue places None e f = clash (let z = f.0 in cc)
   rule_adds t taken clue places (Some u) e f = by_rule u e
 
-  pub accepts : (t : Subproblem) (rest : List Subproblem) (taken : Option Plan) (c : Call) → All Clear (table_checks j th t taken c) → Accepts j th (moment (t ∷ rest) taken) c (moved_top j th t rest taken c)
+  pub accepts : (t : Subproblem) (rest : List Subproblem) (taken : Option Plan) (c : Call) → AllByRecursion Clear (table_checks j th t taken c) → Accepts j th (moment (t ∷ rest) taken) c (moved_top j th t rest taken c)
   accepts t rest taken (branch r) f = branches f
   accepts t rest taken (cut l) f = adds f (by_cut (cut_quotient t l f))
   accepts t rest taken (chain []) f = clash (let z = f.0 in cc)
@@ -57,7 +57,7 @@ module _ (j : Job) (th : Meaning (List ℕ)) where
   steps_lead m (c ∷ cs) = then (step_moves m c) (steps_lead (step j th m c) cs)
 
   -- ---- and back
-  adds_is : (t : Subproblem) (rest : List Subproblem) (taken : Option Plan) (c : Call) (r : Row) → All Clear (table_checks j th t taken c) → Adds j th t taken c r → moved_top j th t rest taken c ≡ with_row t rest taken r
+  adds_is : (t : Subproblem) (rest : List Subproblem) (taken : Option Plan) (c : Call) (r : Row) → AllByRecursion Clear (table_checks j th t taken c) → Adds j th t taken c r → moved_top j th t rest taken c ≡ with_row t rest taken r
   adds_is t rest taken c r f (by_cut {l = l} d) = ap (with_row t rest taken) (cut_once t l r f d)
   adds_is t rest taken c r f (by_chain {ls = ls} d) = ap (with_row t rest taken) (chain_once no_row 1 t ls r f.1.1 d)
   adds_is t rest taken c r f (by_rule u e) = ap (λ (o : Option Rule). with_row t rest taken (rule_row (size j) o)) e
@@ -67,7 +67,7 @@ module _ (j : Job) (th : Meaning (List ℕ)) where
   shuts_is t rest taken c by_drop = refl
   shuts_is t rest taken c by_pin = refl
 
-  step-accepted : (t : Subproblem) (rest : List Subproblem) (taken : Option Plan) (c : Call) → All Clear (table_checks j th t taken c) → step j th (moment (t ∷ rest) taken) c ≡ moved_top j th t rest taken c
+  step-accepted : (t : Subproblem) (rest : List Subproblem) (taken : Option Plan) (c : Call) → AllByRecursion Clear (table_checks j th t taken c) → step j th (moment (t ∷ rest) taken) c ≡ moved_top j th t rest taken c
   step-accepted t rest taken c f = ap (λ o. (changed o (moment (t ∷ rest) taken) (moved_top j th t rest taken c)).0) (none_first (table_checks j th t taken c) f)
 
   step_refused : (m : Moment) (c : Call) (o : Option Fault) → refusal j th m c ≡ o → (Accepted j th m c → ⊥) → (changed o m (moved j th m c)).0 ≡ m

@@ -1,6 +1,6 @@
 -- A plan that lies in a table whose rows hold every variable is the point at which they hold it.
 use Rattle.std.proofs.Common.{◌≡◌, ℕ, suc, ◌+◌, ◌*◌, Bool, true, false, cond, ◌&&◌, List, [], ◌∷◌, map, length, ℤ, neg_ℤ, ◌≤ℤ◌, is_some, Some, None, Option, refl, ap, ◌∙◌, ap₂, arith}
-use Rattle.std.specs.List.{AllByRecursion as All}
+use Rattle.std.specs.List.{AllByRecursion}
 use Rattle.std.proofs.lemmas.Int.{ints}
 use Rattle.std.proofs.lemmas.Bool.{and_parts, false≢true}
 use Rattle.terms.specs.Integers.{eq_z}
@@ -31,7 +31,7 @@ held_value n i above below x long m o some =
     (λ k e. let h = bound_met (negated (unit n i)) below x k e o in omega (arith, ints, dot-negated (unit n i) x, dot-unit n i x long))
 
 -- ys is what x has from variable i on
-pub is_point : (n i : ℕ) (t : List Row) (places : List ℕ) (x ys : Plan) → length x ≡ n → LiesIn t x → ((k : ℕ) → reads ys k ≡ reads x (i + k)) → length places ≡ 2 * length ys → All Yes (map is_some (held_from n i t places)) → ys ≡ map value_of (held_from n i t places)
+pub is_point : (n i : ℕ) (t : List Row) (places : List ℕ) (x ys : Plan) → length x ≡ n → LiesIn t x → ((k : ℕ) → reads ys k ≡ reads x (i + k)) → length places ≡ 2 * length ys → AllByRecursion Yes (map is_some (held_from n i t places)) → ys ≡ map value_of (held_from n i t places)
 is_point n i t [] x [] e h same l f = refl
 is_point n i t (p ∷ []) x [] e h same l f = absurd (omega arith)
 is_point n i t (p ∷ q ∷ ps) x [] e h same l f = absurd (omega arith)

@@ -1,7 +1,7 @@
 -- The row that an accepted line makes is its quotient, and the only one; so is the row of a chain.
 use Rattle.std.proofs.Common.{◌≡◌, ℕ, ◌+◌, ◌<◌, List, [], ◌∷◌, ◌++◌, map, sym, ◌∙◌, ap₂, arith}
 use mathlib.Core.Path.{subst⁻¹}
-use Rattle.std.specs.List.{AllByRecursion as All}
+use Rattle.std.specs.List.{AllByRecursion}
 use Rattle.std.proofs.lemmas.Int.{ints}
 use Rattle.terms.specs.declared.fault.Cause.TheVariants.{NotDivisible}
 use Rattle.terms.specs.Rows.{Row}
@@ -31,24 +31,24 @@ module _ (t : List Row) (l : Line) where
         no_further = floor_next l.divisor s.right p;
       }
 
-  pub cut_quotient : All Clear (cut_checks t l) → Quotient t l (made t l)
+  pub cut_quotient : AllByRecursion Clear (cut_checks t l) → Quotient t l (made t l)
   cut_quotient f = made_quotient f.1.1.0 f.1.1.1.1.1.0
 
-  pub cut_once : (r : Row) → All Clear (cut_checks t l) → Quotient t l r → made t l ≡ r
+  pub cut_once : (r : Row) → AllByRecursion Clear (cut_checks t l) → Quotient t l r → made t l ≡ r
   cut_once r f q = quotient_once t l (made t l) r (divisor_positive l f.1.1.0) (cut_quotient f) q
 
-  line_quotient : All Clear (line_checks t l) → Quotient t l (made t l)
+  line_quotient : AllByRecursion Clear (line_checks t l) → Quotient t l (made t l)
   line_quotient f = made_quotient f.1.1.0 f.1.1.1.1.0
 
-  line_once : (r : Row) → All Clear (line_checks t l) → Quotient t l r → made t l ≡ r
+  line_once : (r : Row) → AllByRecursion Clear (line_checks t l) → Quotient t l r → made t l ≡ r
   line_once r f q = quotient_once t l (made t l) r (divisor_positive l f.1.1.0) (line_quotient f) q
 
-pub chain_chained : (before : Row) (k : ℕ) (t : List Row) (l : Line) (ls : List Line) → All Clear (lines_checks k t (l ∷ ls)) → Chained t (l ∷ ls) (last_made before t (l ∷ ls))
+pub chain_chained : (before : Row) (k : ℕ) (t : List Row) (l : Line) (ls : List Line) → AllByRecursion Clear (lines_checks k t (l ∷ ls)) → Chained t (l ∷ ls) (last_made before t (l ∷ ls))
 chain_chained before k t l [] e = last_line (line_quotient t l (all_clear (line_checks t l) (line_clear k _ e.0)))
 chain_chained before k t l (m ∷ ls) e =
     next_line (line_quotient t l (all_clear (line_checks t l) (line_clear k _ e.0))) (chain_chained (made t l) (k + 1) (t ++ made t l ∷ []) m ls e.1)
 
-pub chain_once : (before : Row) (k : ℕ) (t : List Row) (ls : List Line) (r : Row) → All Clear (lines_checks k t ls) → Chained t ls r → last_made before t ls ≡ r
+pub chain_once : (before : Row) (k : ℕ) (t : List Row) (ls : List Line) (r : Row) → AllByRecursion Clear (lines_checks k t ls) → Chained t ls r → last_made before t ls ≡ r
 chain_once before k t [] r e c = elim c [ ]
 chain_once before k t (l ∷ []) r e (last_line d) = line_once t l r (all_clear (line_checks t l) (line_clear k _ e.0)) d
 chain_once before k t (l ∷ m ∷ ls) r e (next_line {q = q} d c) =

@@ -1,7 +1,7 @@
 -- Accepted calls one after the other, and what it takes to shut the top of the pile.
 use Rattle.std.proofs.Common.{◌≡◌, ℕ, List, [], ◌∷◌, ◌++◌, Option}
 use mathlib.Core.Path.{subst⁻¹}
-use Rattle.std.specs.List.{AllByRecursion as All}
+use Rattle.std.specs.List.{AllByRecursion}
 use Rattle.terms.specs.Rows.{Plan, Row, opposite}
 use Rattle.theories.specs.Meaning.{Meaning}
 use Rattle.law.specs.Jobs.{Job, size}
@@ -26,7 +26,7 @@ module _ (j : Job) (th : Meaning (List ℕ)) where
   pub reach_here : (m : Moment) → Reaches m m
   reach_here m = ([], here)
 
-  pub reach_by : (t : Subproblem) (rest : List Subproblem) (taken : Option Plan) (c : Call) (e : Moment) → All Clear (table_checks j th t taken c) → Reaches (moved_top j th t rest taken c) e → Reaches (moment (t ∷ rest) taken) e
+  pub reach_by : (t : Subproblem) (rest : List Subproblem) (taken : Option Plan) (c : Call) (e : Moment) → AllByRecursion Clear (table_checks j th t taken c) → Reaches (moved_top j th t rest taken c) e → Reaches (moment (t ∷ rest) taken) e
   reach_by t rest taken c e f r = (c ∷ r.0, then (accepts j th t rest taken c f) r.1)
 
   reach_on : (m k e : Moment) → Reaches m k → Reaches k e → Reaches m e
@@ -36,13 +36,13 @@ module _ (j : Job) (th : Meaning (List ℕ)) where
   abbrev pub Shuttable : Subproblem → Type 0
   Shuttable t = (rest : List Subproblem) (taken : Option Plan) → (new : Option Plan) × Reaches (moment (t ∷ rest) taken) (moment rest new)
 
-  pub shut_by_lem : (t u : Subproblem) (c : Call) → ((taken : Option Plan) → All Clear (table_checks j th t taken c)) →
+  pub shut_by_lem : (t u : Subproblem) (c : Call) → ((taken : Option Plan) → AllByRecursion Clear (table_checks j th t taken c)) →
       ((rest : List Subproblem) (taken : Option Plan) → moved_top j th t rest taken c ≡ moment (u ∷ rest) taken) → Shuttable u → Shuttable t
   shut_by_lem t u c f m s rest taken =
       let r = s rest taken in
       (r.0, reach_by t rest taken c (moment rest r.0) (f taken) (subst⁻¹ (λ k. Reaches k (moment rest r.0)) (m rest taken) r.1))
 
-  pub shut_halves : (t : Subproblem) (r : Row) → All Clear (branch_checks (size j) t r) → Shuttable (t ++ r ∷ []) → Shuttable (t ++ opposite r ∷ []) → Shuttable t
+  pub shut_halves : (t : Subproblem) (r : Row) → AllByRecursion Clear (branch_checks (size j) t r) → Shuttable (t ++ r ∷ []) → Shuttable (t ++ opposite r ∷ []) → Shuttable t
   shut_halves t r f s o rest taken =
       let lower = (t ++ opposite r ∷ []) ∷ rest in
       let p = s lower taken in let q = o rest p.0 in

@@ -1,6 +1,6 @@
 -- Jobs, their models, and how a job is filled.
 use Rattle.std.specs.Prelude.{◌≡◌, ℕ, ◌+◌, true, cond, List, [], ◌∷◌, ◌++◌, map, length, ℤ, pos, is_some, Some, None, Ok, Err, Option, Result, ◌==◌, nat_le, nat_lt}
-use Rattle.std.specs.List.{AllByRecursion as All}
+use Rattle.std.specs.List.{AllByRecursion}
 use Rattle.terms.specs.declared.fault.Cause.TheVariants.{Full, OutOfRange, UnknownRelation, WrongLength}
 use Rattle.terms.specs.declared.fault.Fault.{Fault}
 use Rattle.terms.specs.Faults.{changed, fault, first_fault, first_unless, unless}
@@ -25,7 +25,7 @@ cost j x = dot j.costs x
 -- a plan that meets every row of the job and that the theory admits
 pub record Model (j : Job) (th : Meaning (List ℕ)) (x : Plan) : Type 0 where
   pub long : length x ≡ size j
-  pub meets : All (Meets x) j.rows
+  pub meets : AllByRecursion (Meets x) j.rows
   pub admitted : th.admits x ≡ true
 
 -- ---- filling

@@ -1,6 +1,6 @@
 -- The law of derivations, of every moment to which calls lead on a newly opened proof, repeats and refusals among them.
 use Rattle.std.specs.Prelude.{◌≡◌, ℕ, ◌<◌, ◌≤◌, true, ◌⊎◌, ◌↔◌, List, [], ◌∷◌, length, ℤ, ◌≤ℤ◌, ◌<ℤ◌, Some, None, Option, ◌≢◌}
-use Rattle.std.specs.List.{ContainsAt as Has, AllByRecursion as All}
+use Rattle.std.specs.List.{ContainsAt as Has, AllByRecursion}
 use Rattle.terms.specs.Limits.{million, within}
 use Rattle.terms.specs.Rows.{Meets, Plan, Row, negated, unit}
 use Rattle.theories.specs.Meaning.{Meaning}
@@ -12,7 +12,7 @@ use Rattle.law.specs.Moves.{Accepts, Leads, Moves}
 
 -- a plan lies in a subproblem when it meets all its rows
 abbrev pub LiesIn : Subproblem → Plan → Type 0
-LiesIn t x = All (Meets x) t
+LiesIn t x = AllByRecursion (Meets x) t
 
 -- it lies in some of these
 abbrev pub LiesInSome : List Subproblem → Plan → Type 0

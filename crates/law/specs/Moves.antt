@@ -1,6 +1,6 @@
 -- What may happen to the pile and the plan taken at a call, as a relation.
 use Rattle.std.specs.Prelude.{◌≡◌, ℕ, List, [], ◌∷◌, ◌++◌, pos, ◌+ℤ◌, ◌-ℤ◌, ◌*ℤ◌, ◌≤ℤ◌, ◌<ℤ◌, Some, None, Option}
-use Rattle.std.specs.List.{AllByRecursion as All}
+use Rattle.std.specs.List.{AllByRecursion}
 use Rattle.terms.specs.declared.fault.Fault.{Fault}
 use Rattle.terms.specs.Rows.{Plan, Row, difference_row, opposite}
 use Rattle.theories.specs.Meaning.{Meaning, Rule}
@@ -12,7 +12,7 @@ use Rattle.law.specs.Pile.{Moment, Subproblem, checks, moment}
 
 -- a call is accepted exactly when none of its checks applies, with the top of the pile as table
 abbrev pub Accepted : Job → Meaning (List ℕ) → Moment → Call → Type 0
-Accepted j th m c = All (λ (o : Option Fault). o ≡ None) (checks j th m c)
+Accepted j th m c = AllByRecursion (λ (o : Option Fault). o ≡ None) (checks j th m c)
 
 -- r is the line's sum divided: its coefficients without remainder, its right side rounded down
 pub record Quotient (t : List Row) (l : Line) (r : Row) : Type 0 where

@@ -1,6 +1,6 @@
 -- What a theory means, the law that it owes, and its answers.
 use Rattle.std.specs.Prelude.{◌≡◌, ℕ, zero, suc, ◌≤◌, Bool, true, cond, List, [], ◌∷◌, length, ℤ, Some, None, Ok, Err, Option, Result, slice_index_or}
-use Rattle.std.specs.List.{AllByRecursion as All}
+use Rattle.std.specs.List.{AllByRecursion}
 use Rattle.terms.specs.declared.difference.Difference.{Difference}
 use Rattle.terms.specs.declared.fault.Cause.TheVariants.{NoRule}
 use Rattle.terms.specs.declared.fault.Fault.{Fault}
@@ -39,9 +39,9 @@ pub record Proper (d : Difference) : Type 0 where
 -- at most four premises; an admitted plan that meets them all meets the conclusion
 pub record Rightful (admits : Plan → Bool) (r : Rule) : Type 0 where
   pub few : length r.premises ≤ 4
-  pub proper : All Proper r.premises
+  pub proper : AllByRecursion Proper r.premises
   pub proper_end : Proper r.conclusion
-  pub holds : (x : Plan) → admits x ≡ true → All (Holds x) r.premises → Holds x r.conclusion
+  pub holds : (x : Plan) → admits x ≡ true → AllByRecursion (Holds x) r.premises → Holds x r.conclusion
 
 abbrev pub IfAny : (Plan → Bool) → Option Rule → Type 0
 IfAny admits None = Unit {0}

@@ -1,6 +1,6 @@
 -- Known weeks: what each call answers, the newest row after it and the verdict at the end; and which plans a theory admits.
 use Rattle.std.specs.Prelude.{◌≡◌, ℕ, Bool, true, false, List, [], ◌∷◌, ℤ, pos, negsuc, Some, None, Option}
-use Rattle.std.specs.List.{AllByRecursion as All}
+use Rattle.std.specs.List.{AllByRecursion}
 use Rattle.terms.specs.declared.fault.Cause.TheVariants.{NotDivisible, OutOfRange}
 use Rattle.terms.specs.declared.fault.Fault.{Fault}
 use Rattle.terms.specs.Faults.{fault}
@@ -125,4 +125,4 @@ weeks =
     ∷ []
 
 abbrev pub WeeksKnown : Type 0
-WeeksKnown = All AsKnown weeks
+WeeksKnown = AllByRecursion AsKnown weeks
