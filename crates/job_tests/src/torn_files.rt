@@ -36,7 +36,7 @@ fn the_job_of_two_batches(rt: HostRuntime) -> Result<(), Fail> {
         Err(_) => Err(Fail::new("refused")),
         Ok(file) => {
             assert_eq!(rt; file.job.size(), 2);
-            assert_eq!(rt; file.job.costs(), &[1, 1]);
+            assert_eq!(rt; file.job.costs(), [1, 1].as_slice());
             assert_eq!(rt; file.job.rows().len(), 2);
             assert_eq!(rt; file.theory.batches.batches().len(), 2);
             Ok(())
@@ -50,7 +50,10 @@ fn the_rest_of_a_torn_copy(rt: HostRuntime) -> Result<(), Fail> {
     match read_job(&JOB[0..30.min(JOB.len())]) {
         Ok(_) => Err(Fail::new("accepted")),
         Err(fault) => {
-            assert_eq!(rt; rest(&JOB[0..30.min(JOB.len())], b"", &fault), b"RG\x02");
+            assert_eq!(rt;
+                rest(&JOB[0..30.min(JOB.len())], b"", &fault),
+                b"RG\x02".as_slice()
+            );
             Ok(())
         },
     }

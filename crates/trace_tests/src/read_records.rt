@@ -148,7 +148,7 @@ fn chains(rt: HostRuntime) -> Result<(), Fail> {
         b"L\x03\x01\x05\0\x06\0\x07\0\0\0\0\x08\0\0\0\x02\x09\0\x0a\0\x0b\0\x0c\0\x0d\0\0\0KE";
     match read_step(0, 0, bytes) {
         Ok((Some(Step::Chain(lines)), rest)) => {
-            assert_eq!(rt; (lines.count, rest), (3, b"KE"));
+            assert_eq!(rt; (lines.count, rest), (3, b"KE".as_slice()));
             assert_eq!(rt; lines.first().divisor, 7);
             premises_are(&rt, lines.first().premises, &[(5, 6)]);
             let lines = lines.rest();
@@ -168,7 +168,7 @@ fn chains(rt: HostRuntime) -> Result<(), Fail> {
 fn a_chain_without_lines(rt: HostRuntime) -> Result<(), Fail> {
     match read_step(2, 2, b"L\0\x01") {
         Ok((Some(Step::Chain(lines)), rest)) => {
-            assert_eq!(rt; (lines.count, rest), (0, b"\x01"));
+            assert_eq!(rt; (lines.count, rest), (0, b"\x01".as_slice()));
             Ok(())
         },
         _ => Err(Fail::new("no chain")),

@@ -74,7 +74,7 @@ fn the_longest_cut(rt: HostRuntime) -> Result<(), Fail> {
     match read_step(2, 2, &bytes) {
         Ok((Some(Step::Cut(line)), rest)) => {
             assert_eq!(rt; (line.premises.len(), line.divisor), (255, 0x0707_0707));
-            assert_eq!(rt; rest, &[7]);
+            assert_eq!(rt; rest, [7].as_slice());
             Ok(())
         }
         _ => Err(Fail::new("no cut")),
@@ -91,7 +91,7 @@ fn the_longest_chain(rt: HostRuntime) -> Result<(), Fail> {
     match read_step(2, 2, &bytes) {
         Ok((Some(Step::Chain(lines)), rest)) => {
             assert_eq!(rt; lines.count, 255);
-            assert_eq!(rt; rest, &[0]);
+            assert_eq!(rt; rest, [0].as_slice());
             Ok(())
         }
         _ => Err(Fail::new("no chain")),
@@ -107,7 +107,7 @@ fn the_longest_infer(rt: HostRuntime) -> Result<(), Fail> {
     not_read(&rt, 2, &bytes[..513], 19, 0)?;
     match read_step(2, 2, &bytes) {
         Ok((Some(Step::Infer(clue, places)), rest)) => {
-            assert_eq!(rt; (clue, rest), (&[9, 9], &[9]));
+            assert_eq!(rt; (clue, rest), ([9, 9].as_slice(), [9].as_slice()));
             assert_eq!(rt; (places.len(), places.get(254)), (255, 0x0909));
             Ok(())
         }

@@ -18,7 +18,7 @@ fn wrong_length(
         Ok(_) => return Err(Fail::new("written")),
         Err(found) => is_fault(rt, found, 2)?,
     }
-    assert_eq!(rt; out.as_slice(), &[0x5a; 1300]);
+    assert_eq!(rt; out.as_slice(), [0x5a; 1300].as_slice());
     match write_step(n, width, step, &mut []) {
         Ok(_) => Err(Fail::new("written")),
         Err(found) => is_fault(rt, found, 2),
@@ -116,7 +116,7 @@ fn writes_long(rt: &impl Abort, step: Step<'_>, length: usize, front: &[u8]) -> 
         Ok(_) => return Err(Fail::new("written")),
         Err(found) => is_fault(rt, found, 23)?,
     }
-    assert_eq!(rt; out.as_slice(), &[0x5a; 1300]);
+    assert_eq!(rt; out.as_slice(), [0x5a; 1300].as_slice());
     assert_eq!(rt; write_step(2, 2, Some(step), &mut out)?, length);
     assert_eq!(rt; &out[..front.len().min(1300)], front);
     assert_eq!(rt; &out[length.min(1300)..], &[0x5a; 1300][length.min(1300)..]);
