@@ -1,6 +1,6 @@
 // Numbers at the front of a file's bytes, little-endian, and the bytes after them.
 ghost use Rattle.std.specs.Prelude.{◌≡◌};
-ghost use Rattle.fields.specs.Bytes.{byte_read, ends, int32_read, int64_read, nat16_read, nat32_read, out_of_phase};
+ghost use Rattle.fields.specs.Bytes.{byte_read, ends, int32_read, int64_read, nat16_read, nat32_read};
 ghost use Rattle.fields.specs.Rest.{with_rest};
 
 use terms::fault::{Cause, Fault};
@@ -11,17 +11,6 @@ pub fn file_ends() -> Fault
 {
     Fault {
         cause: Cause::FileEnds,
-        spot: 0,
-        line: 0,
-    }
-}
-
-// The refusal of a letter that is unknown or out of its phase.
-pub fn out_of_phase() -> Fault
-    ensures { result ≡ out_of_phase }
-{
-    Fault {
-        cause: Cause::LetterOutOfPhase,
         spot: 0,
         line: 0,
     }

@@ -1,6 +1,6 @@
 // Reads job.bct in the current folder, checks it whole, and prints the job that it spells and what is known of it, or the refusal.
 // With the argument `check` it reads trace.bct as well, and prints what the trace shows of the job, or the first refusal.
-// With the argument `list` it prints the job that job.bct spells.
+// With the argument `list` it prints the job that job.bct spells. Any other argument changes nothing.
 #![tactic(auto)]
 
 mod input;
@@ -13,7 +13,6 @@ use files::job_file::read_job;
 use files::reader::JobFile;
 use files::theory::{FileTheory, Named};
 use files::two_files::check;
-use std::io::ErrorKind;
 use std::{env, io};
 use theories::bare::Bare;
 
@@ -21,17 +20,9 @@ fn main(rt: HostRuntime) -> io::Result<()> {
     let mut args = env::args(&rt)?;
     args.next();
     match args.next() {
-        Some(word) => {
-            if word.as_str() == "check" {
-                check_files(&rt)
-            } else if word.as_str() == "list" {
-                list(&rt)
-            } else {
-                eprintln!(rt; "usage: figinstant [check | list]")?;
-                Err(io::Error::from(ErrorKind::InvalidInput))
-            }
-        }
-        None => job_alone(&rt),
+        Some(word) if word.as_str() == "check" => check_files(&rt),
+        Some(word) if word.as_str() == "list" => list(&rt),
+        _ => job_alone(&rt),
     }
 }
 

@@ -9,7 +9,8 @@ ghost use Rattle.fields.specs.Rest.{with_rest};
 use crate::theory::{FileTheory, Named};
 use derivation::job::Job;
 use fields::body::read_body;
-use fields::bytes::{file_ends, out_of_phase, read_i32, read_u8, read_u32};
+use fields::bytes::{file_ends, read_i32, read_u8, read_u32};
+use fields::letters::out_of_phase;
 use terms::fault::Fault;
 use theories::parts::{Batch, Call};
 

@@ -1,6 +1,5 @@
 // Opening uses a job up, and closing a proof. The edits of must-not-compile/ use each once more.
 use derivation::job::Job;
-use derivation::proof::Proof;
 use derivation::verdict::Verdict;
 use terms::fault::Fault;
 use theories::bare::Bare;

@@ -6,7 +6,8 @@ ghost use Rattle.spelling.specs.OneSpelling.{Spelt};
 ghost use Rattle.spelling.specs.StepsSeen.{call_in, line_seen, parts_seen, rest_seen, step_seen};
 
 use fields::body::read_body;
-use fields::bytes::{file_ends, out_of_phase, read_u8, read_u16, read_u32};
+use fields::bytes::{file_ends, read_u8, read_u16, read_u32};
+use fields::letters::out_of_phase;
 use fields::maps::{check_map, read_numbers};
 use law::numbers::Numbers;
 use law::premise::{Line, Lines, Places, Premises};
