@@ -3,7 +3,7 @@ use Rattle.std.proofs.Common.{◌≡◌, ℕ, ◌*◌, ◌<◌, ◌≤◌, min, 
 use mir.ValLaws.{of_z_fits}
 use Rattle.std.proofs.lemmas.List.{append_assoc}
 use Rattle.std.proofs.lemmas.Int.{to_z-of_z}
-use Rattle.std.proofs.lemmas.Bool.{and_parts, eqb-true}
+use Rattle.std.proofs.lemmas.Bool.{and_parts, eqb-true, ltb-true}
 use Rattle.terms.specs.Bytes.{nat16, nat64}
 use Rattle.terms.specs.Faults.{otherwise}
 use Rattle.terms.specs.Rows.{Row}
@@ -100,6 +100,6 @@ reads_back n w (Some (chain ls)) l s f rest = letter_read n w 76 (length ls ∷ 
 reads_back n w (Some (infer clue places)) l s f rest = letter_read n w 73 ((clue ++ length places ∷ places_bytes places) ++ rest) l ∙ infer_read_lem w clue places rest (eqb-true (length clue) w (and_parts (eqb (length clue) w) (counted places) s).0) f
 reads_back n w (Some cutoff) l s f rest = letter_read n w 75 rest l
 reads_back n w (Some (take values)) l s f rest = letter_read n w 84 (mapped_bytes values ++ rest) l ∙ take_read_lem n values rest l (eqb-true (length values) n s) f
-reads_back n w (Some (drop place)) l s f rest = letter_read n w 68 (bytes16 place ++ rest) l ∙ drop_read_lem place rest f
+reads_back n w (Some (drop place)) l s f rest = letter_read n w 68 (bytes16 place ++ rest) l ∙ drop_read_lem place rest (ltb-true place 65536 s)
 reads_back n w (Some (pin places)) l s f rest = letter_read n w 80 (places_bytes places ++ rest) l ∙ pin_read_lem n places rest (eqb-true (length places) (2 * n) s) f
 reads_back n w None l s f rest = letter_read n w 69 rest l

@@ -2,7 +2,7 @@
 use Rattle.std.proofs.Common.{◌≡◌, ℕ, ◌*◌, ◌<◌, ◌≤◌, min, true, cond, eqb, List, ◌∷◌, ◌++◌, length, get_or, take as firsts, drop as after, ℤ, Some, None, Ok, Err, Option, sym, refl, ap, ◌∙◌, subst, ap₂, arith, w64, to_z, of_z}
 use Rattle.std.proofs.lemmas.List.{append_assoc, drop_more, length-take-le, take-append-drop}
 use Rattle.std.proofs.lemmas.Int.{of_z-to_z}
-use Rattle.std.proofs.lemmas.Bool.{and_from, eq-eqb, eqb-true, le-leb}
+use Rattle.std.proofs.lemmas.Bool.{and_from, eq-eqb, eqb-true, le-leb, lt-ltb}
 use Rattle.terms.specs.Bytes.{nat16, nat64}
 use Rattle.law.proofs.PremisesRead.{lines_long}
 use Rattle.law.specs.Calls.{Call}
@@ -76,7 +76,9 @@ module _ (n w : ℕ) (bs : List ℕ) (h : AreBytes bs) where
   cut_spelt = holds_then (LineSpelt bs) (StepSpelt n w (67 ∷ bs)) (line_read bs) _ (line-spelt bs h) (λ p g. (ap (λ cs. 67 ∷ cs) g.0, g.2))
 
   drop-spelt : Holds (StepSpelt n w (68 ∷ bs)) (drop_read bs)
-  drop-spelt = holds_after 2 bs (nat16 bs, after 2 bs) (StepSpelt n w (68 ∷ bs)) _ (λ l. (ap (λ cs. 68 ∷ cs) (back16 bs h l), refl))
+  drop-spelt = holds_after 2 bs (nat16 bs, after 2 bs) (StepSpelt n w (68 ∷ bs)) _ (λ l.
+      let fits : nat16 bs < 65536 = omega (arith, h 0, h 1) in
+      (ap (λ cs. 68 ∷ cs) (back16 bs h l), lt-ltb (nat16 bs) 65536 fits))
 
   pin_spelt : Holds (StepSpelt n w (80 ∷ bs)) (pin_read n bs)
   pin_spelt = holds_after (4 * n) bs (firsts (4 * n) bs, after (4 * n) bs) (StepSpelt n w (80 ∷ bs)) _ (λ l.

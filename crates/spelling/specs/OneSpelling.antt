@@ -34,7 +34,7 @@ FitsFields (Some (chain ls)) = AllLines ls
 FitsFields (Some (infer clue places)) = AllPlaces places
 FitsFields (Some cutoff) = Unit {0}
 FitsFields (Some (take values)) = AllNumbers values
-FitsFields (Some (drop place)) = place < 65536
+FitsFields (Some (drop place)) = Unit {0}
 FitsFields (Some (pin places)) = AllPlaces places
 FitsFields None = Unit {0}
 

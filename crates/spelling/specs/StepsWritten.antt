@@ -1,5 +1,5 @@
 -- Steps as bytes: a letter, and then numbers, little-endian, two's complement where signed.
-use Rattle.std.specs.Prelude.{ℕ, ◌+◌, ◌*◌, ◌/◌, ◌%◌, Bool, true, cond, ◌&&◌, List, [], ◌∷◌, ◌++◌, length, drop as after, ℤ, pos, Some, None, Ok, Err, Option, Result, ◌==◌, nat_le}
+use Rattle.std.specs.Prelude.{ℕ, ◌+◌, ◌*◌, ◌/◌, ◌%◌, Bool, true, cond, ◌&&◌, List, [], ◌∷◌, ◌++◌, length, drop as after, ℤ, pos, Some, None, Ok, Err, Option, Result, ◌==◌, nat_le, nat_lt}
 use Rattle.std.specs.Int.{w32, w64}
 use Rattle.std.proofs.Common.{of_z}
 use Rattle.terms.specs.declared.fault.Cause.TheVariants.{BufferTooShort, WrongLength}
@@ -75,7 +75,7 @@ abbrev pub lines_counted : List Line → Bool
 lines_counted [] = true
 lines_counted (l ∷ ls) = counted l.premises && lines_counted ls
 
--- the lists have the lengths that records for n variables and clues of w bytes give them
+-- the lists have the lengths that records for n variables and clues of w bytes give them, and the place of a drop fits its field
 abbrev pub suits : ℕ → ℕ → Option Call → Bool
 suits n w (Some (branch r)) = length r.coefficients == n
 suits n w (Some (cut l)) = counted l.premises
@@ -83,7 +83,7 @@ suits n w (Some (chain ls)) = counted ls && lines_counted ls
 suits n w (Some (infer clue places)) = length clue == w && counted places
 suits n w (Some cutoff) = true
 suits n w (Some (take values)) = length values == n
-suits n w (Some (drop place)) = true
+suits n w (Some (drop place)) = nat_lt place 65536
 suits n w (Some (pin places)) = length places == 2 * n
 suits n w None = true
 

@@ -109,6 +109,13 @@ fn two_hundred_fifty_six(rt: HostRuntime) -> Result<(), Fail> {
     wrong_length(&rt, 2, 2, Some(step))
 }
 
+// Places that two bytes cannot hold.
+#[test]
+fn drops_past_every_record(rt: HostRuntime) -> Result<(), Fail> {
+    wrong_length(&rt, 2, 2, Some(Step::Drop(65_536)))?;
+    wrong_length(&rt, 2, 2, Some(Step::Drop(70_000)))
+}
+
 // The letter and the bytes after it, of a record of so many bytes; a buffer with a byte less is too short.
 fn writes_long(rt: &impl Abort, step: Step<'_>, length: usize, front: &[u8]) -> Result<(), Fail> {
     let mut out = [0x5a; 1300];

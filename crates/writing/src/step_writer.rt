@@ -1,5 +1,5 @@
 // The writer of steps.
-ghost use Rattle.std.specs.Prelude.{◌≡◌, ◌*◌, ◌≤◌, true, ◌&&◌, [], ◌∷◌, length, take as firsts, IfOk, Some, ◌==◌};
+ghost use Rattle.std.specs.Prelude.{◌≡◌, ◌*◌, ◌≤◌, true, ◌&&◌, [], ◌∷◌, length, take as firsts, IfOk, Some, ◌==◌, nat_lt};
 ghost use Rattle.terms.specs.declared.fault.Cause.TheVariants.{WrongLength};
 ghost use Rattle.terms.specs.Faults.{otherwise, unless};
 ghost use Rattle.law.specs.Calls.Call.{branch, chain, cut, cutoff, drop, infer, pin, take};
@@ -122,11 +122,12 @@ fn write_infer(
 }
 
 fn write_drop(place: usize, out: &mut [u8]) -> Result<usize, Fault>
-    ensures { (out.new, result) ≡ written_if true (spelling (Some (drop place))) out.old }
+    ensures { (out.new, result) ≡ written_if (nat_lt place 65536) (spelling (Some (drop place))) out.old }
 {
+    need(place < 65_536, Cause::WrongLength, 0)?;
     need(3 <= out.len(), Cause::BufferTooShort, 0)?;
     let body = lay_u8(b'D', 0, out);
-    Ok(lay_u16((place % 65_536) as u16, body, out))
+    Ok(lay_u16(place as u16, body, out))
 }
 
 fn write_pin(n: usize, places: &Places<'_>, out: &mut [u8]) -> Result<usize, Fault>
