@@ -1,5 +1,5 @@
 -- Rows that read 0 from a place on: one variable more, one row more.
-use Rattle.std.proofs.Common.{◌≡◌, ℕ, zero, suc, ◌+◌, ◌-◌, ◌<◌, true, List, [], ◌∷◌, ◌++◌, map, length, get_or, take, drop, set, replicate, ℤ, pos, neg_ℤ, sym, refl, ap, ◌∙◌, ap₂, arith}
+use Rattle.std.proofs.Common.{◌≡◌, ℕ, zero, suc, ◌+◌, ◌-◌, ◌<◌, true, List, [], ◌∷◌, ◌++◌, map, length, get_or, take, drop, replicate, ℤ, pos, neg_ℤ, sym, refl, ap, ◌∙◌, ap₂, arith}
 use Rattle.std.proofs.lemmas.List.{drop_more, take_more}
 use Rattle.std.proofs.lemmas.Bool.{and_parts, and_from}
 use Rattle.terms.specs.declared.row.Row.{Row as Stored}
@@ -35,17 +35,11 @@ rows_blank_more n (r ∷ rows) h e =
     let l : n < length r.coefficients.items = omega (arith, r.coefficients.long) in
     and_from (blank_from (n + 1) r.coefficients.items) (rows_blank (n + 1) rows) (blank_parts n r.coefficients.items l p.0).1 (rows_blank_more n rows h p.1)
 
-pub rows_blank_set : (n : ℕ) (rows : List Stored) (i : ℕ) (r : Stored) → blank_from n r.coefficients.items ≡ true → rows_blank n rows ≡ true → rows_blank n (set rows i r) ≡ true
-rows_blank_set n [] i r h e = refl
-rows_blank_set n (q ∷ rows) zero r h e = and_from (blank_from n r.coefficients.items) (rows_blank n rows) h (and_parts (blank_from n q.coefficients.items) (rows_blank n rows) e).1
-rows_blank_set n (q ∷ rows) (suc i) r h e =
+pub rows_blank_joined : (n : ℕ) (rows : List Stored) (r : Stored) → blank_from n r.coefficients.items ≡ true → rows_blank n rows ≡ true → rows_blank n (rows ++ r ∷ []) ≡ true
+rows_blank_joined n [] r h e = and_from (blank_from n r.coefficients.items) true h refl
+rows_blank_joined n (q ∷ rows) r h e =
     let p = and_parts (blank_from n q.coefficients.items) (rows_blank n rows) e in
-    and_from (blank_from n q.coefficients.items) (rows_blank n (set rows i r)) p.0 (rows_blank_set n rows i r h p.1)
-
--- copies of a blank row
-pub copies_blank : (n k : ℕ) (r : Stored) → blank_from n r.coefficients.items ≡ true → rows_blank n (replicate k r) ≡ true
-copies_blank n zero r h = refl
-copies_blank n (suc k) r h = and_from (blank_from n r.coefficients.items) (rows_blank n (replicate k r)) h (copies_blank n k r h)
+    and_from (blank_from n q.coefficients.items) (rows_blank n (rows ++ r ∷ [])) p.0 (rows_blank_joined n rows r h p.1)
 
 -- a list padded with zeros is blank from its end on, also with all signs turned
 zeros_blank : (k n : ℕ) → every (map (eq_z (pos 0)) (drop n (replicate k (pos 0)))) ≡ true

@@ -1,6 +1,5 @@
 -- The checks of a chain, one after another, by the number of its lines.
-use Rattle.std.proofs.Common.{◌≡◌, ℕ, ◌+◌, ◌<◌, ◌≤◌, leb, List, ◌∷◌, length, get_or, take, pos, Some, None, sym, ap, ◌∙◌, ap₂}
-use Rattle.std.proofs.lemmas.List.{get_or-take, take-map, take-take}
+use Rattle.std.proofs.Common.{◌≡◌, ℕ, ◌+◌, ◌≤◌, leb, List, ◌∷◌, length, Some, None, sym, ap, ◌∙◌, ap₂}
 use Rattle.std.proofs.lemmas.Bool.{and_parts, leb-true}
 use Rattle.terms.specs.declared.fault.Cause.TheVariants.{Full, WrongLength}
 use Rattle.terms.specs.declared.fault.Fault.{Fault}
@@ -11,7 +10,6 @@ use Rattle.terms.proofs.Passed.{pass_one, stop_one, unless_passed}
 use Rattle.law.specs.Calls.{Line}
 use Rattle.law.specs.Lines.{between, chain_checks, last_made, lines_checks, no_row, room_check}
 use Rattle.derivation.specs.Joining.{Makes}
-use Rattle.derivation.specs.Stacked.{rights_of}
 use Rattle.derivation.specs.Sums.{ChainMade}
 
 -- the number of lines is 1 to 8
@@ -41,12 +39,3 @@ module _ (t : List Row) (ls : List Line) (n k : ℕ) (high : n ≡ length t) (lo
 
       pub lines_stopped : (f : Fault) → first_fault (lines_checks 1 t ls) ≡ Some f → first_fault (chain_checks t ls) ≡ Some f
       lines_stopped f s = ready ∙ s
-
--- ---- rows that agree below a place
-module _ (rows others : List Stored) (n : ℕ) (same : take n others ≡ take n rows) where
-  pub rights_same : (k : ℕ) → k < n → get_or (rights_of others) k (pos 0) ≡ get_or (rights_of rows) k (pos 0)
-  rights_same k h =
-      sym (get_or-take _ (rights_of others) _ _ h) ∙ ap (λ zs. get_or zs k (pos 0)) (take-map _ n others ∙ ap rights_of same ∙ sym (take-map _ n rows)) ∙ get_or-take _ (rights_of rows) _ _ h
-
-  pub front_same : (g : ℕ) → g ≤ n → take g others ≡ take g rows
-  front_same g h = sym (take-take g n others h) ∙ ap (take g) same ∙ take-take g n rows h

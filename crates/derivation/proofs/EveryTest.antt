@@ -1,14 +1,14 @@
--- No test fails exactly where every test passes.
-use Rattle.std.proofs.Common.{◌≡◌, ℕ, zero, suc, ◌+◌, ◌<◌, Bool, true, false, List, [], ◌∷◌, map, length, get_or, is_ok, None, refl, arith}
+-- A test on every element of a list.
+use Rattle.std.proofs.Common.{◌≡◌, ℕ, zero, suc, ◌+◌, ◌<◌, Bool, true, false, ◌&&◌, List, [], ◌∷◌, map, length, get_or, None, refl, ap, arith}
+use Rattle.std.specs.List.{list_all}
 use Rattle.terms.specs.declared.fault.Cause.{Cause}
-use Rattle.terms.specs.Faults.{answered, first_unless}
+use Rattle.terms.specs.Faults.{first_unless}
 use Rattle.terms.proofs.Passed.{clash}
 use Rattle.theories.specs.Pairs.{every}
 
-pub every-answered : (cause : Cause) (spot : ℕ) (bs : List Bool) → is_ok (answered (first_unless cause spot bs)) ≡ every bs
-every-answered cause spot [] = refl
-every-answered cause spot (true ∷ bs) = every-answered cause (spot + 1) bs
-every-answered cause spot (false ∷ bs) = refl
+pub every-list_all : {A : Type 0} (f : A → Bool) (xs : List A) → list_all f xs ≡ every (map f xs)
+every-list_all f [] = refl
+every-list_all f (x ∷ xs) = ap (λ b. f x && b) (every-list_all f xs)
 
 module _ {A : Type 0} (f : A → Bool) (d : A) (cause : Cause) where
   by-test : (x : A) (xs : List A) (spot k : ℕ) (b : Bool) → f x ≡ b → first_unless cause spot (b ∷ map f xs) ≡ None → k < suc (length xs) → (first_unless cause (spot + 1) (map f xs) ≡ None → (j : ℕ) → j < length xs → f (get_or xs j d) ≡ true) → f (get_or (x ∷ xs) k d) ≡ true

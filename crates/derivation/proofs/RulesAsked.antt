@@ -1,39 +1,45 @@
 -- A rule put together from a theory's answers.
-use Rattle.std.proofs.Common.{◌≡◌, ℕ, ◌≤◌, Bool, List, [], ◌∷◌, length, take, Some, None, Ok, Option, sym, refl, ap, ◌∙◌, ap₂, arith}
+use Rattle.std.proofs.Common.{◌≡◌, ℕ, zero, suc, ◌<◌, ◌≤◌, Bool, List, [], ◌∷◌, length, get_or, take, Some, None, Ok, Err, Option, sym, ◌∙◌, ap₂, arith}
+use Rattle.std.proofs.lemmas.List.{take_all}
 use Rattle.terms.specs.declared.difference.Difference.{Difference}
-use Rattle.terms.proofs.Passed.{clash}
-use Rattle.theories.specs.Meaning.{IfAny, Rule, concluded, counted, premise_at}
+use Rattle.terms.specs.declared.fault.Fault.{Fault}
 use Rattle.terms.specs.Rows.{Plan}
-use Rattle.derivation.specs.RuleView.{or_else}
+use Rattle.terms.proofs.Passed.{clash}
+use Rattle.theories.specs.Meaning.{IfAny, Rule, concluded, counted, difference_at, premise_at}
 
--- four answers are the premises, of which there are at most four
-four_asked : (u : Rule) (d : Difference) → length u.premises ≤ 4 →
-    take (length u.premises) (or_else (premise_at (Some u) 0) d ∷ or_else (premise_at (Some u) 1) d ∷ or_else (premise_at (Some u) 2) d ∷ or_else (premise_at (Some u) 3) d ∷ []) ≡ u.premises
-four_asked u d h = by u.premises h
-  where
-    by : (ds : List Difference) → length ds ≤ 4 → let v : Rule = record { premises = ds; conclusion = d } in
-        take (length ds) (or_else (premise_at (Some v) 0) d ∷ or_else (premise_at (Some v) 1) d ∷ or_else (premise_at (Some v) 2) d ∷ or_else (premise_at (Some v) 3) d ∷ []) ≡ ds
-    by [] l = refl
-    by (a ∷ []) l = refl
-    by (a ∷ b ∷ []) l = refl
-    by (a ∷ b ∷ e ∷ []) l = refl
-    by (a ∷ b ∷ e ∷ f ∷ []) l = refl
-    by (a ∷ b ∷ e ∷ f ∷ g ∷ ds) l = absurd (omega arith)
+-- the premises that are asked for; none where there is no rule
+abbrev pub asked : Option Rule → List Difference
+asked None = []
+asked (Some u) = u.premises
 
-pub rule_asked : (o : Option Rule) (n : ℕ) (d p q r s : Difference) (admits : Plan → Bool) → IfAny admits o → Ok n ≡ counted o → Ok d ≡ concluded o →
-    p ≡ or_else (premise_at o 0) d → q ≡ or_else (premise_at o 1) d → r ≡ or_else (premise_at o 2) d → s ≡ or_else (premise_at o 3) d →
-    o ≡ Some (record { premises = take n (p ∷ q ∷ r ∷ s ∷ []); conclusion = d })
-rule_asked None n d p q r s admits w en ed e0 e1 e2 e3 = clash (cc)
-rule_asked (Some u) n d p q r s admits w en ed e0 e1 e2 e3 = ap₂ (λ ps k. Some (record { premises = ps; conclusion = k })) (sym premises_are) (sym ends)
-  where
-    many : n ≡ length u.premises
-    many = cc
+pub asked_few : (admits : Plan → Bool) (o : Option Rule) → IfAny admits o → length (asked o) ≤ 4
+asked_few admits None w = omega arith
+asked_few admits (Some u) w = w.few
 
-    ends : d ≡ u.conclusion
-    ends = cc
+pub asked_long : (o : Option Rule) (n : ℕ) → Ok n ≡ counted o → n ≡ length (asked o)
+asked_long None n e = clash (cc)
+asked_long (Some u) n e = cc
 
-    premises_are : take n (p ∷ q ∷ r ∷ s ∷ []) ≡ u.premises
-    premises_are =
-        ap (λ k. take k (p ∷ q ∷ r ∷ s ∷ [])) many
-        ∙ (λ i. take (length u.premises) (e0 i ∷ e1 i ∷ e2 i ∷ e3 i ∷ []))
-        ∙ four_asked u d w.few
+premise_is : (ds : List Difference) (i : ℕ) (d : Difference) → Ok d ≡ difference_at ds i → d ≡ get_or ds i d
+premise_is [] i d e = clash (cc)
+premise_is (a ∷ ds) zero d e = cc
+premise_is (a ∷ ds) (suc i) d e = premise_is ds i d e
+
+pub asked_at : (o : Option Rule) (i : ℕ) (d : Difference) → Ok d ≡ premise_at o i → d ≡ get_or (asked o) i d
+asked_at None i d e = clash (cc)
+asked_at (Some u) i d e = premise_is u.premises i d e
+
+premise_there : (ds : List Difference) (i : ℕ) (f : Fault) → i < length ds → Err f ≡ difference_at ds i → ⊥
+premise_there [] i f h e = omega arith
+premise_there (a ∷ ds) zero f h e = clash (cc)
+premise_there (a ∷ ds) (suc i) f h e = premise_there ds i f (omega arith) e
+
+pub asked_there : (o : Option Rule) (i : ℕ) (f : Fault) → i < length (asked o) → Err f ≡ premise_at o i → ⊥
+asked_there None i f h e = omega arith
+asked_there (Some u) i f h e = premise_there u.premises i f h e
+
+pub rule_asked : (o : Option Rule) (n i : ℕ) (d : Difference) (ps : List Difference) → Ok n ≡ counted o → Ok d ≡ concluded o → n ≤ i → ps ≡ take i (asked o) → o ≡ Some (record { premises = ps; conclusion = d })
+rule_asked None n i d ps en ed h e = clash (cc)
+rule_asked (Some u) n i d ps en ed h e =
+    let many : n ≡ length u.premises = cc in let ends : d ≡ u.conclusion = cc in
+    ap₂ (λ qs k. Some (record { premises = qs; conclusion = k })) (sym (e ∙ take_all i u.premises (omega arith))) (sym ends)

@@ -1,7 +1,7 @@
 -- Waiting heights as rows join the table and leave it.
-use Rattle.std.proofs.Common.{◌≡◌, ℕ, ◌+◌, ◌-◌, ◌<◌, ◌≤◌, Bool, true, ◌&&◌, ltb, ◌≢◌, List, [], ◌∷◌, map, reverse, length, get_or, take, set, ℤ, pos, sym, ap, ◌∙◌, arith, get_or-set_other}
+use Rattle.std.proofs.Common.{◌≡◌, ℕ, ◌<◌, ◌≤◌, Bool, true, ◌&&◌, ltb, List, [], ◌∷◌, ◌++◌, map, length, get_or, take, ℤ, pos, sym, ap, ◌∙◌, arith}
 use lib.Signed.{lt_z}
-use Rattle.std.proofs.lemmas.List.{map-set, reverse-append, take_more, take_more_set, take-set-le}
+use Rattle.std.proofs.lemmas.List.{get_or_append_left, get_or-take, length-append, length-map, map-append, take-append-le, take-map}
 use Rattle.std.proofs.lemmas.Bool.{and_from, and_parts, le-leb, leb-true, lt-ltb, ltb-true}
 use Rattle.terms.specs.declared.row.Row.{Row as Stored}
 use Rattle.terms.specs.Limits.{right_limit}
@@ -46,22 +46,22 @@ module _ (g : ℕ) where
   stacked_falling rights n [] e = tt
   stacked_falling rights n (h ∷ hs) e = let p = stacked_parts rights n h hs e in (p.0, stacked_falling rights h hs p.2)
 
--- ---- a row written at a place
-pub rights_other : (rows : List Stored) (i k : ℕ) (r : Stored) → k ≢ i → get_or (rights_of (set rows i r)) k (pos 0) ≡ get_or (rights_of rows) k (pos 0)
-rights_other rows i k r ne = ap (λ zs. get_or zs k (pos 0)) (map-set (λ (s : Stored). s.right) rows i r) ∙ get_or-set_other (rights_of rows) i k r.right (pos 0) ne
+-- ---- rows that join at the end, and that leave from there
+module _ (g : ℕ) (rows : List Stored) (hs : List ℕ) where
+  pub stacked_joined : (n : ℕ) (r : Stored) → n ≤ length rows → stacked g (rights_of rows) n hs ≡ true → stacked g (rights_of (rows ++ r ∷ [])) n hs ≡ true
+  stacked_joined n r m e =
+      stacked_same g (rights_of rows) (rights_of (rows ++ r ∷ [])) n hs
+      (λ k l. ap (λ zs. get_or zs k (pos 0)) (map-append (λ (s : Stored). s.right) rows (r ∷ [])) ∙ get_or_append_left (rights_of rows) (r.right ∷ []) (pos 0) k (omega (arith, length-map rows (λ (s : Stored). s.right)))) e
 
--- rows below a place stay as they were
-pub below_written : (g : ℕ) (rows : List Stored) (i : ℕ) (r : Stored) (hs : List ℕ) → stacked g (rights_of rows) i hs ≡ true → stacked g (rights_of (set rows i r)) i hs ≡ true
-below_written g rows i r hs e = stacked_same g (rights_of rows) (rights_of (set rows i r)) i hs (λ k l. rights_other rows i k r (omega arith)) e
+  pub stacked_left : (n : ℕ) → stacked g (rights_of rows) n hs ≡ true → stacked g (rights_of (take n rows)) n hs ≡ true
+  stacked_left n e =
+      stacked_same g (rights_of rows) (rights_of (take n rows)) n hs
+      (λ k l. ap (λ zs. get_or zs k (pos 0)) (sym (take-map (λ (s : Stored). s.right) n rows)) ∙ get_or-take n (rights_of rows) k (pos 0) l) e
 
-pub given_kept : (n : ℕ) (rows : List Stored) (g i : ℕ) (r : Stored) → g ≤ i → map (row_of n) (take g (set rows i r)) ≡ map (row_of n) (take g rows)
-given_kept n rows g i r l = ap (map (row_of n)) (take-set-le g rows i r l)
+-- a row that joins leaves the heights in order
+pub stack_joined : (g : ℕ) (rows : List Stored) (hs : List ℕ) (r : Stored) → stacked g (rights_of rows) (length rows) hs ≡ true → stacked g (rights_of (rows ++ r ∷ [])) (length (rows ++ r ∷ [])) hs ≡ true
+stack_joined g rows hs r e =
+    stacked_higher g (rights_of (rows ++ r ∷ [])) (length rows) (length (rows ++ r ∷ [])) hs (omega (arith, length-append rows (r ∷ []))) (stacked_joined g rows hs (length rows) r (omega arith) e)
 
--- ---- heights, the newest last in the array
-pub height_pushed : (hs : List ℕ) (w h : ℕ) → w < length hs → reverse (take (w + 1) (set hs w h)) ≡ h ∷ reverse (take w hs)
-height_pushed hs w h l = ap reverse (take_more_set hs w h l) ∙ reverse-append (take w hs) (h ∷ [])
-
-pub height_newest : (hs : List ℕ) (w : ℕ) → 0 < w → w ≤ length hs → reverse (take w hs) ≡ get_or hs (w - 1) 0 ∷ reverse (take (w - 1) hs)
-height_newest hs w z l =
-    let e : w - 1 + 1 ≡ w = omega arith in
-    ap (λ n. reverse (take n hs)) (sym e) ∙ ap reverse (take_more hs (w - 1) 0 (omega arith)) ∙ reverse-append (take (w - 1) hs) (get_or hs (w - 1) 0 ∷ [])
+pub given_joined : (n : ℕ) (rows : List Stored) (g : ℕ) (r : Stored) → g ≤ length rows → map (row_of n) (take g (rows ++ r ∷ [])) ≡ map (row_of n) (take g rows)
+given_joined n rows g r l = ap (map (row_of n)) (take-append-le g rows (r ∷ []) l)

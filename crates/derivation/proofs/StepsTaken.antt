@@ -2,16 +2,16 @@
 use Rattle.std.proofs.Common.{◌≡◌, ℕ, ◌+◌, ◌≤◌, true, false, ltb, leb, List, [], ◌∷◌, ◌++◌, length, take, Some, None, Ok, Err, Option, Result, sym, refl, ap, ◌∙◌, subst, ap₂, arith}
 use Rattle.terms.specs.declared.fault.Cause.TheVariants.{Full, NothingOpen, WrongLength}
 use Rattle.terms.specs.declared.fault.Fault.{Fault}
-use Rattle.terms.specs.Faults.{changed, fault, first_fault, unless}
+use Rattle.terms.specs.Faults.{answered, changed, fault, first_fault, unless}
 use Rattle.theories.specs.Meaning.{Meaning}
 use Rattle.law.specs.Calls.{Call, Line}
-use Rattle.derivation.proofs.RowsAdded.{rows_counted}
+use Rattle.terms.specs.Stored.{row_of}
 use Rattle.derivation.specs.declared.state.State.{State}
 use Rattle.derivation.specs.declared.table.Table.{Table}
-use Rattle.std.proofs.lemmas.List.{length-take-le}
+use Rattle.std.proofs.lemmas.List.{length-map, length-take-le}
 use Rattle.law.specs.Jobs.{Job, size}
 use Rattle.std.proofs.lemmas.Bool.{and_parts, le-leb, leb-true, ltb-true}
-use Rattle.terms.proofs.Passed.{parts_passed, rest_passed, unless_passed}
+use Rattle.terms.proofs.Passed.{parts_passed, passed, rest_passed, unless_passed}
 use Rattle.law.specs.Lines.{between, chain_checks, cut_checks, lines_checks, made_checks, number_checks, room_check}
 use Rattle.law.specs.Pile.{Moment, called, moment, moved, refusal, table_checks}
 use Rattle.derivation.specs.Stacked.{rights_of}
@@ -23,8 +23,8 @@ use Rattle.derivation.specs.StateView.{holding_of, job_in, moment_of, plan_of}
 use Rattle.derivation.specs.TableView.{Fixed, Held, fixed_of, held_of, shut_by}
 use Rattle.derivation.proofs.Stacks.{stacked_falling}
 
-pub rows_long : (t : Table) → length (held_of t).rows ≡ t.count
-rows_long t = rows_counted t.size t.rows t.count (omega (arith, t.few, t.long))
+pub rows_long : (t : Table) → length (held_of t).rows ≡ length t.rows.items
+rows_long t = length-map t.rows.items (row_of t.size)
 
 -- the job of a stored proof has as many variables
 pub size_in : (s : State) → size (job_in s) ≡ s.table.size
@@ -32,7 +32,11 @@ size_in s = length-take-le s.table.size s.costs.items (omega (arith, s.table.nar
 
 pub orderly : (s : State) → Orderly (holding_of s)
 orderly s = let t = s.table in
-    subst (λ n. Falling n (held_of t).heights) (sym (rows_long t)) (stacked_falling t.given (rights_of t.rows) t.count (held_of t).heights t.stack)
+    subst (λ n. Falling n (held_of t).heights) (sym (rows_long t)) (stacked_falling t.given (rights_of t.rows.items) (length t.rows.items) (held_of t).heights t.stack)
+
+-- a subproblem was open where the check passed
+pub was_open : (s : State) (u : Unit {0}) → Ok u ≡ answered (unless (held_of s.table).mark NothingOpen 0) → (held_of s.table).mark ≡ true
+was_open s u e = unless_passed (held_of s.table).mark NothingOpen 0 (passed (unless (held_of s.table).mark NothingOpen 0) u tt e).0
 
 abbrev pub Answer : Type 0
 Answer = Moment × Result (Unit {0}) Fault
@@ -74,10 +78,10 @@ shut_as j rows (h ∷ hs) taken = refl
 
 -- ---- a step that adds one row
 abbrev pub Pushed : State → Table → Row → Type 0
-Pushed s t r = held_of t ≡ record { rows = (held_of s.table).rows ++ r ∷ []; heights = (held_of s.table).heights; mark = s.table.marked }
+Pushed s t r = held_of t ≡ record { rows = (held_of s.table).rows ++ r ∷ []; heights = (held_of s.table).heights; mark = (held_of s.table).mark }
 
 module _ (s : State) (th : Meaning (List ℕ)) (c : Call) (t : Table) (fixed : fixed_of t ≡ fixed_of s.table) (r : Row) where
-  pub step_pushed : Pushed s t r → s.table.marked ≡ true → first_fault (table_checks (job_in s) th (held_of s.table).rows (plan_of s.table.size s.taken) c) ≡ None →
+  pub step_pushed : Pushed s t r → (held_of s.table).mark ≡ true → first_fault (table_checks (job_in s) th (held_of s.table).rows (plan_of s.table.size s.taken) c) ≡ None →
       joined (held_of s.table).rows (held_of s.table).heights (plan_of s.table.size s.taken) r ≡ done (job_in s) th (held_of s.table).rows (held_of s.table).heights (plan_of s.table.size s.taken) c →
       ◌≡◌ {A = Answer} (moment_of (changed_to s t s.taken fixed), Ok tt) (called (job_in s) th (moment_of s) c)
   step_pushed h e n d =

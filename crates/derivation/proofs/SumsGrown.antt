@@ -16,30 +16,32 @@ use Rattle.law.specs.Lines.{no_row, row_at, summed}
 use Rattle.derivation.specs.Sums.{no_premise}
 use Rattle.derivation.proofs.SumsByPlace.{Wide, summed_at_lem, summed_wide, summed_at}
 
--- one number more of a sum at 64 bits
-pub added_is : (s z : ℤ) (m : ℕ) → SFits w64 s → SFits w64 z → m < 2 ^ 16 → nat_abs s + m * nat_abs z < 2 ^ 63 →
-    to_z w64 (of_z w64 (to_z w64 (of_z w64 s) +ℤ to_z w64 (of_z w64 (to_z w64 m *ℤ to_z w64 (of_z w64 z))))) ≡ s +ℤ pos m *ℤ z
-added_is s z m fs fz h b =
-    let p : nat_abs (pos m *ℤ z) ≤ m * nat_abs z = product_near m (nat_abs z) (pos m) z (omega arith) (omega arith) in
-    let fp : SFits w64 (pos m *ℤ z) = omega (arith, ints) in
-    let ft : SFits w64 (s +ℤ pos m *ℤ z) = omega (arith, ints) in
-    let k : m < 2 ^ 63 = omega arith in
-    ap (λ x. to_z w64 (of_z w64 x)) (ap₂ ◌+ℤ◌ (to_z-of_z w64 s fs) (ap (λ x. to_z w64 (of_z w64 x)) (ap₂ ◌*ℤ◌ (to_z_pos w64 m k) (to_z-of_z w64 z fz)) ∙ to_z-of_z w64 (pos m *ℤ z) fp)) ∙ to_z-of_z w64 (s +ℤ pos m *ℤ z) ft
-
 -- a number of 32 bits, read at 64
-widened : (r : ℤ) → SFits w32 r → to_z w64 (of_z w64 (to_z w32 (of_z w32 r))) ≡ r
+pub widened : (r : ℤ) → SFits w32 r → to_z w64 (of_z w64 (to_z w32 (of_z w32 r))) ≡ r
 widened r f =
     let g : SFits w64 r = omega (arith, ints) in
     ap (λ x. to_z w64 (of_z w64 x)) (to_z-of_z w32 r f) ∙ to_z-of_z w64 r g
 
-module _ (a r : ℤ) (m : ℕ) {z : ℤ} (fz : SFits w64 z) (fr : SFits w32 r) (e : z ≡ a) where
-  pub read_near : nat_abs a + m * nat_abs r < 2 ^ 63 → nat_abs (to_z w64 (of_z w64 z)) + m * nat_abs (to_z w64 (of_z w64 (to_z w32 (of_z w32 r)))) < 2 ^ 63
-  read_near h =
-      subst⁻¹ (λ x. nat_abs x + m * nat_abs (to_z w64 (of_z w64 (to_z w32 (of_z w32 r)))) < 2 ^ 63) (to_z-of_z w64 z fz ∙ e)
-      (subst⁻¹ (λ y. nat_abs a + m * nat_abs y < 2 ^ 63) (widened r fr) h)
+-- one number more of a sum at 64 bits: z is the sum a as it is stored, and q the number r
+module _ (a r : ℤ) {z q : ℤ} (m : ℕ) (fz : SFits w64 z) (e : z ≡ a) (is : q ≡ r) (l : m < 2 ^ 16) (h : nat_abs a + m * nat_abs r < 2 ^ 63) where
+  near : nat_abs (pos m *ℤ r) ≤ m * nat_abs r
+  near = product_near m (nat_abs r) (pos m) r (omega arith) (omega arith)
 
-  pub read_added : {s : ℤ} → SFits w64 s → s ≡ to_z w64 (of_z w64 z) +ℤ pos m *ℤ to_z w64 (of_z w64 (to_z w32 (of_z w32 r))) → to_z w64 (of_z w64 s) ≡ a +ℤ pos m *ℤ r
-  read_added {s} fs h = to_z-of_z w64 s fs ∙ h ∙ ap₂ (λ x y. x +ℤ pos m *ℤ y) (to_z-of_z w64 z fz ∙ e) (widened r fr)
+  sum_is : to_z w64 (of_z w64 z) +ℤ to_z w64 (of_z w64 (to_z w64 m *ℤ q)) ≡ a +ℤ pos m *ℤ r
+  sum_is =
+      let p = near in
+      let fp : SFits w64 (pos m *ℤ r) = omega (arith, ints) in
+      let k : m < 2 ^ 63 = omega arith in
+      ap₂ ◌+ℤ◌ (to_z-of_z w64 z fz ∙ e) (ap (λ x. to_z w64 (of_z w64 x)) (ap₂ ◌*ℤ◌ (to_z_pos w64 m k) is) ∙ to_z-of_z w64 (pos m *ℤ r) fp)
+
+  sum-fits : SFits w64 (a +ℤ pos m *ℤ r)
+  sum-fits = let p = near in omega (arith, ints)
+
+  pub added_fits : SFits w64 (to_z w64 (of_z w64 z) +ℤ to_z w64 (of_z w64 (to_z w64 m *ℤ q)))
+  added_fits = subst⁻¹ (SFits w64) sum_is sum-fits
+
+  pub added_is : to_z w64 (of_z w64 (to_z w64 (of_z w64 z) +ℤ to_z w64 (of_z w64 (to_z w64 m *ℤ q)))) ≡ a +ℤ pos m *ℤ r
+  added_is = ap (λ x. to_z w64 (of_z w64 x)) sum_is ∙ to_z-of_z w64 (a +ℤ pos m *ℤ r) sum-fits
 
 -- ---- the sum of a line's rows
 -- the sums so far lack what is left of the premises
@@ -106,9 +108,6 @@ module _ {n : ℕ} {t : List Row} {ps : List Premise} {i : ℕ} {cs : List ℤ} 
   pub right_fits : (b : ℤ) (m : ℕ) → i < 32 → m ≤ 10000 → nat_abs b ≤ 20000000000000 → nat_abs a + m * nat_abs b < 2 ^ 63
   right_fits b m h e l = let p : m * nat_abs b ≤ 10000 * 20000000000000 = mul-le-mul e l in omega (arith, s.near)
 
-  pub right_grown : (m : ℕ) {z b : ℤ} → z ≡ b → a +ℤ pos m *ℤ z ≡ a +ℤ pos m *ℤ b
-  right_grown m e = ap (λ x. a +ℤ pos m *ℤ x) e
-
 -- ---- stored rows
 pub row_there : (n : ℕ) (rows : List Stored) (place : ℕ) (d : Stored) → place < length rows → row_at (map (row_of n) rows) place ≡ row_of n (get_or rows place d)
 row_there n rows place d h = get_or-map (row_of n) rows place d no_row h
@@ -131,11 +130,11 @@ wide_sum n t (p ∷ ps) h w l = summed_wide n t p ps w l
 none_left : (a b total : ℤ) → b ≡ pos 0 → a +ℤ b ≡ total → a ≡ total
 none_left a b total e f = omega (arith, ints)
 
-pub summing_all : (n : ℕ) (t : List Row) (ps : List Premise) (i : ℕ) (cs : List ℤ) {right : ℤ} → n ≤ 16 → 0 < length ps → length ps ≤ i → AllByRecursion (Wide n) t → ((k : ℕ) → (get_or ps k no_premise).place < length t) →
+pub summing_all : (n : ℕ) (t : List Row) (ps : List Premise) (i : ℕ) (cs : List ℤ) {right : ℤ} → n ≤ 16 → 0 < length ps → length ps ≤ i → AllByRecursion (Wide n) t → ((k : ℕ) → k < length ps → (get_or ps k no_premise).place < length t) →
     Summing n t ps i cs right → record { coefficients = take n cs; right = right } ≡ summed t ps
 summing_all n t ps i cs {right} h some end w places s =
     let none = drop_all i ps end in
-    let wide = wide_sum n t ps some w (All-from_get_or (λ (q : Premise). q.place < length t) ps no_premise (λ k l. places k)) in
+    let wide = wide_sum n t ps some w (All-from_get_or (λ (q : Premise). q.place < length t) ps no_premise places) in
     let long : length (take n cs) ≡ n = length-take-le n cs (omega (arith, s.long)) in
     ap₂ (λ ds z. record { coefficients = ds; right = z })
     (ext_get_or (pos 0) (take n cs) (summed t ps).coefficients (long ∙ sym wide)

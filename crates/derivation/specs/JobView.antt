@@ -6,7 +6,7 @@ use Rattle.law.specs.Jobs.{Job}
 use Rattle.derivation.specs.declared.job.Job.{Job as StoredJob}
 
 abbrev pub job_of : StoredJob → Job
-job_of j = record { costs = take j.size j.costs.items; rows = map (row_of j.size) (take j.count j.rows) }
+job_of j = record { costs = take j.size j.costs.items; rows = map (row_of j.size) j.rows.items }
 
 -- rows more, at the end
 abbrev pub with_rows : Job → List Row → Job

@@ -9,4 +9,5 @@ pub mod Stacked
 pub mod StateView
 pub mod Sums
 pub mod TableView
+pub mod VerdictText
 pub mod VerdictView

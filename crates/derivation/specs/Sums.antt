@@ -16,9 +16,9 @@ use Rattle.derivation.specs.declared.sums.Sums.{Sums}
 abbrev pub sum_of : ℕ → Sums → Row
 sum_of n s = record { coefficients = take n s.coefficients; right = s.right }
 
--- the first `count` stored rows, of n variables
-abbrev pub table_of : ℕ → ℕ → List Stored → List Row
-table_of n count rows = map (row_of n) (take count rows)
+-- stored rows, of n variables
+abbrev pub table_of : ℕ → List Stored → List Row
+table_of n rows = map (row_of n) rows
 
 -- no row, no times
 abbrev pub no_premise : Premise

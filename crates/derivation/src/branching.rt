@@ -1,14 +1,12 @@
 // The steps that split a subproblem and shut it by a contradiction: branch and drop.
-ghost use Rattle.std.specs.Prelude.{◌≡◌, ℕ, ◌<◌, List, [], ◌∷◌, length, pos, Some, None, MatchResult};
-ghost use Rattle.terms.specs.Integers.{eq_z};
-ghost use Rattle.terms.specs.Faults.{answered, first_fault, unless};
+ghost use Rattle.std.specs.Prelude.{◌≡◌, ℕ, List, Some, MatchResult};
+ghost use Rattle.terms.specs.Faults.{answered, first_fault};
 ghost use Rattle.theories.specs.Meaning.{Meaning};
 ghost use Rattle.law.specs.Bounds.{all_zero};
-ghost use Rattle.law.specs.Calls.Call.{branch, cutoff, drop};
-ghost use Rattle.law.specs.Pile.{called};
+ghost use Rattle.law.specs.Calls.Call.{branch, drop};
 ghost use Rattle.law.specs.Steps.{branch_checks, contradiction, drop_checks};
 ghost use Rattle.derivation.specs.Joining.{Branches};
-ghost use Rattle.derivation.specs.StateView.{holding_of, job_in, moment_of};
+ghost use Rattle.derivation.specs.StateView.{Works};
 ghost use Rattle.derivation.specs.TableView.{held_of};
 ghost use Rattle.terms.specs.Stored.{row_of, whole};
 
@@ -21,10 +19,9 @@ use terms::row::Row;
 impl State {
     // The current subproblem is split: the row joins it, and its opposite waits.
     pub(crate) fn branch(&mut self, coefficients: &[i32], right: i64) -> Result<(), Fault>
-        ensures step { (th : Meaning (List ℕ)) → (moment_of self.new, result) ≡ called (job_in self.old) th (moment_of self.old) (branch (record { coefficients = coefficients.entry.now; right = right })) }
-        ensures job { job_in self.new ≡ job_in self.old }
+        ensures { (th : Meaning (List ℕ)) → Works th self.old (branch (record { coefficients = coefficients.entry.now; right = right })) self.new result }
     {
-        need(self.table.marked, Cause::NothingOpen, 0)?;
+        self.table.check_open()?;
         let row = self.table.check_branch(coefficients, right)?;
         self.table.branch(row);
         Ok(())
@@ -32,10 +29,9 @@ impl State {
 
     // A contradiction at a place shuts the current subproblem.
     pub(crate) fn drop_at(&mut self, place: usize) -> Result<(), Fault>
-        ensures step { (th : Meaning (List ℕ)) → (moment_of self.new, result) ≡ called (job_in self.old) th (moment_of self.old) (drop place) }
-        ensures job { job_in self.new ≡ job_in self.old }
+        ensures { (th : Meaning (List ℕ)) → Works th self.old (drop place) self.new result }
     {
-        need(self.table.marked, Cause::NothingOpen, 0)?;
+        self.table.check_open()?;
         self.table.check_drop(place)?;
         self.table.shut();
         Ok(())
@@ -62,13 +58,8 @@ impl Table {
     fn check_drop(&self, place: usize) -> Result<(), Fault>
         ensures { result ≡ answered (first_fault (drop_checks (held_of self.now).rows place)) }
     {
-        need(place < self.len(), Cause::NoSuchPlace, 0)?;
-        let row = self.row(place);
-        need(
-            is_contradiction(self.size, &row),
-            Cause::NotContradiction,
-            0,
-        )
+        let row = self.rows.get(place).ok_or(Cause::NoSuchPlace)?;
+        need(is_contradiction(self.size, row), Cause::NotContradiction, 0)
     }
 }
 
@@ -83,16 +74,9 @@ fn is_contradiction(n: usize, row: &Row) -> bool
 fn is_blank(n: usize, row: &Row) -> bool
     ensures { result ≡ all_zero (row_of n row.now).coefficients }
 {
-    for i in 0..n.min(16) {
-        if !is_zero(row.coefficients.items[i]) {
-            return false;
-        }
-    }
-    true
-}
-
-fn is_zero(number: i32) -> bool
-    ensures { result ≡ eq_z (pos 0) number }
-{
-    number == 0
+    row.coefficients
+        .items
+        .iter()
+        .take(n)
+        .all(|number| *number == 0)
 }

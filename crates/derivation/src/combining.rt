@@ -4,13 +4,12 @@ ghost use Rattle.terms.specs.Faults.{first_fault};
 ghost use Rattle.theories.specs.Meaning.{Meaning};
 ghost use Rattle.law.specs.Calls.Call.{chain, cut};
 ghost use Rattle.law.specs.Lines.{chain_checks, cut_checks, last_made, made, no_row};
-ghost use Rattle.law.specs.Pile.{called};
 ghost use Rattle.law.specs.Spelt.{line_of, lines_of};
 ghost use Rattle.derivation.specs.Joining.{Makes};
-ghost use Rattle.derivation.specs.StateView.{job_in, moment_of};
+ghost use Rattle.derivation.specs.StateView.{Works};
 ghost use Rattle.derivation.specs.TableView.{fixed_of, held_of};
 
-use crate::lines::{chain_row, check_numbers, is_between, make_row};
+use crate::lines::{Numbered, Rows, chain_row, is_between};
 use crate::state::State;
 use crate::table::Table;
 use law::premise::{Line, Lines};
@@ -23,30 +22,33 @@ impl Table {
     fn check_cut(&self, line: &Line<'_>) -> Result<Row, Fault>
         ensures { MatchResult result (Makes self.now.size (cut_checks (held_of self.now).rows (line_of line.now)) (made (held_of self.now).rows (line_of line.now))) (λ f. first_fault (cut_checks (held_of self.now).rows (line_of line.now)) ≡ Some f) }
     {
-        check_numbers(line)?;
+        let line = Numbered::new(*line)?;
         need(self.len() < 512, Cause::Full, 0)?;
-        make_row(&self.rows, self.count, self.size, line)
+        let rows = Rows {
+            items: self.rows.as_slice(),
+            size: self.size,
+        };
+        rows.make_row(&line)
     }
 
-    // The row of a chain, where none of its checks applies. The rows of the lines before the last stand past the table's end while it is made.
+    // The row of a chain, where none of its checks applies. The rows of its lines stand at the table's end while it is made.
     fn check_chain(&mut self, lines: Lines<'_>) -> Result<Row, Fault>
         ensures held { held_of self.new ≡ held_of self.old }
         ensures fixed { fixed_of self.new ≡ fixed_of self.old }
         ensures outcome { MatchResult result (Makes self.old.size (chain_checks (held_of self.old).rows (lines_of lines.entry)) (last_made no_row (held_of self.old).rows (lines_of lines.entry))) (λ f. first_fault (chain_checks (held_of self.old).rows (lines_of lines.entry)) ≡ Some f) }
     {
         need(is_between(1, 8, lines.count), Cause::WrongLength, 0)?;
-        need(self.len() + lines.count <= 512, Cause::Full, 0)?;
-        chain_row(&mut self.rows, &mut self.count, self.size, lines)
+        need(self.rows.len() + lines.count <= 512, Cause::Full, 0)?;
+        chain_row(&mut self.rows, self.size, lines)
     }
 }
 
 impl State {
     // The row that a line makes joins the table.
     pub(crate) fn cut(&mut self, line: &Line<'_>) -> Result<(), Fault>
-        ensures step { (th : Meaning (List ℕ)) → (moment_of self.new, result) ≡ called (job_in self.old) th (moment_of self.old) (cut (line_of line.now)) }
-        ensures job { job_in self.new ≡ job_in self.old }
+        ensures { (th : Meaning (List ℕ)) → Works th self.old (cut (line_of line.now)) self.new result }
     {
-        need(self.table.marked, Cause::NothingOpen, 0)?;
+        self.table.check_open()?;
         let row = self.table.check_cut(line)?;
         self.table.push(row);
         Ok(())
@@ -54,10 +56,9 @@ impl State {
 
     // The row that the last line makes joins the table.
     pub(crate) fn chain(&mut self, lines: Lines<'_>) -> Result<(), Fault>
-        ensures step { (th : Meaning (List ℕ)) → (moment_of self.new, result) ≡ called (job_in self.old) th (moment_of self.old) (chain (lines_of lines.entry)) }
-        ensures job { job_in self.new ≡ job_in self.old }
+        ensures { (th : Meaning (List ℕ)) → Works th self.old (chain (lines_of lines.entry)) self.new result }
     {
-        need(self.table.marked, Cause::NothingOpen, 0)?;
+        self.table.check_open()?;
         let row = self.table.check_chain(lines)?;
         self.table.push(row);
         Ok(())

@@ -3,8 +3,7 @@ ghost use Rattle.std.specs.Prelude.{◌≡◌, ℕ, ◌≤◌, List, take, unsig
 ghost use Rattle.theories.specs.Meaning.{Meaning};
 ghost use Rattle.law.specs.Calls.Call.{cutoff};
 ghost use Rattle.law.specs.Jobs.{cost};
-ghost use Rattle.law.specs.Pile.{called};
-ghost use Rattle.derivation.specs.StateView.{job_in, moment_of};
+ghost use Rattle.derivation.specs.StateView.{Works, job_in};
 
 use crate::state::State;
 use terms::checks::need;
@@ -17,22 +16,15 @@ impl State {
         ensures value { result ≡ cost (job_in self.now) (take self.now.table.size plan.now.items) }
         ensures bound { unsigned_abs result ≤ 16000000000000 }
     {
-        self.costs.dot(&plan.items[0..self.table.size])
+        self.costs.dot(&plan.items[..self.table.size])
     }
 
     // The row joins that asks for less than the plan taken costs.
     pub(crate) fn cutoff(&mut self) -> Result<(), Fault>
-        ensures step { (th : Meaning (List ℕ)) → (moment_of self.new, result) ≡ called (job_in self.old) th (moment_of self.old) cutoff }
-        ensures job { job_in self.new ≡ job_in self.old }
+        ensures { (th : Meaning (List ℕ)) → Works th self.old cutoff self.new result }
     {
-        need(self.table.marked, Cause::NothingOpen, 0)?;
-        let Some(plan) = self.taken else {
-            return Err(Fault {
-                cause: Cause::NoPlanTaken,
-                spot: 0,
-                line: 0,
-            });
-        };
+        self.table.check_open()?;
+        let plan = self.taken.ok_or(Cause::NoPlanTaken)?;
         need(self.table.len() < 512, Cause::Full, 0)?;
         let right = self.cost(&plan) - 1;
         self.table.push(Row {

@@ -3,32 +3,17 @@ ghost use Rattle.std.specs.Prelude.{◌≡◌, ◌+◌, ◌<◌, ◌≤◌, true
 ghost use Rattle.terms.specs.Faults.{answered, first_fault};
 ghost use Rattle.terms.specs.Rows.{Row as SpecRow};
 ghost use Rattle.terms.specs.Stored.{row_of, whole};
-ghost use Rattle.law.specs.Jobs.{no_job, related, relation_of, rewritten, row_added, row_checks, size, variable_added, variable_checks};
+ghost use Rattle.law.specs.Jobs.{no_job, rewritten, row_added, row_checks, size, variable_added, variable_checks};
 ghost use Rattle.derivation.specs.Blank.{blank_from};
 ghost use Rattle.derivation.specs.Joining.{Joins};
 ghost use Rattle.derivation.specs.JobView.{job_of, with_rows};
 
 use crate::job::Job;
+use arrayvec::ArrayVec;
 use law::relation::Relation;
 use terms::checks::{is_small, need};
 use terms::fault::{Cause, Fault};
 use terms::row::{Coefficients, Row};
-
-// The relation that a letter names.
-pub fn relation_of(letter: char) -> Result<Relation, Fault>
-    ensures { result ≡ related (relation_of letter) }
-{
-    match letter {
-        'L' => Ok(Relation::AtMost),
-        'G' => Ok(Relation::AtLeast),
-        'E' => Ok(Relation::Equal),
-        _ => Err(Fault {
-            cause: Cause::UnknownRelation,
-            spot: 0,
-            line: 0,
-        }),
-    }
-}
 
 // The checks of a cost that is to join n others.
 fn check_variable(n: usize, cost: i32) -> Result<(), Fault>
@@ -43,12 +28,10 @@ impl Job {
     pub fn new() -> Job
         ensures { job_of result ≡ no_job }
     {
-        let row = Row::zeros();
         Job {
-            costs: row.coefficients,
+            costs: Coefficients::zeros(),
             size: 0,
-            rows: [row; 64],
-            count: 0,
+            rows: ArrayVec::new(),
         }
     }
 
@@ -57,9 +40,7 @@ impl Job {
         ensures { (job_of self.new, result) ≡ variable_added (job_of self.old) cost }
     {
         check_variable(self.size, cost)?;
-        let mut items = self.costs.items;
-        items[self.size] = cost;
-        self.costs = Coefficients { items };
+        self.costs.items[self.size] = cost;
         self.size += 1;
         Ok(())
     }
@@ -75,35 +56,23 @@ impl Job {
     {
         need(coefficients.len() == self.size, Cause::WrongLength, 0)?;
         let row = Row::new(coefficients, right)?;
-        let relation = relation_of(letter)?;
-        need(self.count + rows_of(relation) <= 64, Cause::Full, 0)?;
+        let relation = Relation::try_from(letter)?;
+        need(self.rows.len() + rows_of(relation) <= 64, Cause::Full, 0)?;
         Ok((row, relation))
-    }
-
-    // One stored row more, which reads 0 from the last variable on.
-    fn push(&mut self, row: Row)
-        requires room { self.old.count < 64 }
-        requires blank { blank_from self.old.size row.coefficients.items ≡ true }
-        ensures after { job_of self.new ≡ with_rows (job_of self.old) (row_of self.old.size row ∷ []) }
-        ensures size { self.new.size ≡ self.old.size }
-        ensures count { self.new.count ≡ self.old.count + 1 }
-    {
-        self.rows[self.count] = row;
-        self.count += 1;
     }
 
     // The row joins the job as its relation says.
     fn join(&mut self, relation: Relation, row: Row)
-        requires room { self.old.count + length (rewritten relation (whole row)) ≤ 64 }
+        requires room { length self.old.rows.items + length (rewritten relation (whole row)) ≤ 64 }
         requires blank { blank_from self.old.size row.coefficients.items ≡ true }
         ensures { job_of self.new ≡ with_rows (job_of self.old) (rewritten relation (row_of self.old.size row)) }
     {
         match relation {
-            Relation::AtMost => self.push(row),
-            Relation::AtLeast => self.push(row.turned()),
+            Relation::AtMost => self.rows.push(row),
+            Relation::AtLeast => self.rows.push(row.turned()),
             Relation::Equal => {
-                self.push(row);
-                self.push(row.turned());
+                self.rows.push(row);
+                self.rows.push(row.turned());
             }
         }
     }
@@ -124,8 +93,8 @@ fn rows_of(relation: Relation) -> usize
     ensures bound { result ≤ 2 }
 {
     match relation {
+        Relation::AtMost | Relation::AtLeast => 1,
         Relation::Equal => 2,
-        _ => 1,
     }
 }
 
@@ -142,13 +111,13 @@ impl Job {
     pub fn costs(&self) -> &[i32]
         ensures { result.now ≡ (job_of self.now).costs }
     {
-        &self.costs.items[0..self.size]
+        &self.costs.items[..self.size]
     }
 
     // The rows, as they are stored.
     pub fn rows(&self) -> &[Row]
         ensures { map (row_of self.now.size) result.now ≡ (job_of self.now).rows }
     {
-        &self.rows[0..self.count]
+        self.rows.as_slice()
     }
 }

@@ -1,24 +1,25 @@
 // The step that adds a rule's conclusion.
-ghost use Rattle.std.specs.Prelude.{◌≡◌, ℕ, true, List, [], ◌∷◌, ◌++◌, map, length, Some};
+ghost use Rattle.std.specs.Prelude.{◌≡◌, ℕ, true, List, [], ◌∷◌, ◌++◌, map, Some};
 ghost use Rattle.std.specs.List.{zip};
 ghost use Rattle.terms.specs.declared.fault.Cause.TheVariants.{NoSuchPlace, PlaceNotVariable, PremiseNotShown};
 ghost use Rattle.terms.specs.Faults.{answered, first_fault, first_unless};
 ghost use Rattle.theories.specs.Meaning.{Meaning};
 ghost use Rattle.law.specs.Bounds.{shown_at};
 ghost use Rattle.law.specs.Calls.Call.{infer};
-ghost use Rattle.law.specs.Pile.{called};
 ghost use Rattle.law.specs.Spelt.{places_of};
 ghost use Rattle.law.specs.Steps.{both_named, found, named, rule_checks};
 ghost use Rattle.derivation.specs.RuleView.{rule_held};
-ghost use Rattle.derivation.specs.StateView.{job_in, moment_of};
+ghost use Rattle.derivation.specs.StateView.{Works};
 ghost use Rattle.derivation.specs.TableView.{held_of};
 
 use crate::bounding::{is_empty, stands_for};
+use crate::rows::place_of;
 use crate::rule::KnownRule;
 use crate::state::State;
 use crate::table::Table;
 use law::premise::Places;
-use terms::checks::need;
+use std::iter;
+use terms::checks::{need, need_none};
 use terms::difference::Difference;
 use terms::fault::{Cause, Fault};
 
@@ -40,19 +41,12 @@ impl KnownRule {
     fn check_named(&self, n: usize) -> Result<(), Fault>
         ensures { result ≡ answered (first_unless PlaceNotVariable 0 (map (both_named n) ((rule_held self.now).premises ++ (rule_held self.now).conclusion ∷ []))) }
     {
-        for i in 0..self.count {
-            if !are_named(n, &self.premises[i]) {
-                return Err(Fault {
-                    cause: Cause::PlaceNotVariable,
-                    spot: i,
-                    line: 0,
-                });
-            }
-        }
-        need(
-            are_named(n, &self.conclusion),
+        need_none(
+            self.premises
+                .iter()
+                .chain(iter::once(&self.conclusion))
+                .position(|difference| !are_named(n, difference)),
             Cause::PlaceNotVariable,
-            self.count,
         )
     }
 }
@@ -72,45 +66,35 @@ impl Table {
         if is_empty(self.size, d) {
             return 0 <= d.most;
         }
-        if place >= self.len() {
-            return false;
-        }
-        let row = self.row(place);
-        stands_for(self.size, &row, d)
+        let row = self.rows.get(place);
+        row.is_some_and(|row| stands_for(self.size, row, d))
     }
 
     // Refuses at the first premise whose place is read and not in the table.
     fn check_found(&self, rule: &KnownRule, places: &Places<'_>) -> Result<(), Fault>
-        requires { length (places_of places.now) ≡ length (rule_held rule.now).premises }
         ensures { result ≡ answered (first_unless NoSuchPlace 0 (map (λ q. found self.now.size (held_of self.now).rows q.0 q.1) (zip (rule_held rule.now).premises (places_of places.now)))) }
     {
-        for i in 0..rule.count {
-            if !self.is_found(&rule.premises[i], places.get(i) as usize) {
-                return Err(Fault {
-                    cause: Cause::NoSuchPlace,
-                    spot: i,
-                    line: 0,
-                });
-            }
-        }
-        Ok(())
+        need_none(
+            rule.premises
+                .iter()
+                .zip(places.items)
+                .position(|(d, item)| !self.is_found(d, place_of(item))),
+            Cause::NoSuchPlace,
+        )
     }
 
     // Refuses at the first premise that the row at its place does not show.
+    // One function for both checks would have to say more of its closure than it saves.
     fn check_shown(&self, rule: &KnownRule, places: &Places<'_>) -> Result<(), Fault>
-        requires { length (places_of places.now) ≡ length (rule_held rule.now).premises }
         ensures { result ≡ answered (first_unless PremiseNotShown 0 (map (λ q. shown_at self.now.size (held_of self.now).rows q.0 q.1) (zip (rule_held rule.now).premises (places_of places.now)))) }
     {
-        for i in 0..rule.count {
-            if !self.is_shown(&rule.premises[i], places.get(i) as usize) {
-                return Err(Fault {
-                    cause: Cause::PremiseNotShown,
-                    spot: i,
-                    line: 0,
-                });
-            }
-        }
-        Ok(())
+        need_none(
+            rule.premises
+                .iter()
+                .zip(places.items)
+                .position(|(d, item)| !self.is_shown(d, place_of(item))),
+            Cause::PremiseNotShown,
+        )
     }
 
     // The checks of a rule, in an open table.
@@ -118,7 +102,7 @@ impl Table {
         ensures { result ≡ answered (first_fault (rule_checks self.now.size (held_of self.now).rows (Some (rule_held rule.now)) (places_of places.now))) }
     {
         rule.check_named(self.size)?;
-        need(places.len() == rule.count, Cause::WrongLength, 0)?;
+        need(places.len() == rule.premises.len(), Cause::WrongLength, 0)?;
         need(self.len() < 512, Cause::Full, 0)?;
         self.check_found(rule, places)?;
         self.check_shown(rule, places)
@@ -128,9 +112,8 @@ impl Table {
 impl State {
     // The rule's conclusion joins the table, where rows at the places show its premises.
     pub(crate) fn infer(&mut self, rule: &KnownRule, places: &Places<'_>) -> Result<(), Fault>
-        requires { self.old.table.marked ≡ true }
-        ensures step { (th : Meaning (List ℕ)) (clue : List ℕ) → th.rule clue ≡ Some (rule_held rule.now) → (moment_of self.new, result) ≡ called (job_in self.old) th (moment_of self.old) (infer clue (places_of places.now)) }
-        ensures job { job_in self.new ≡ job_in self.old }
+        requires { (held_of self.old.table).mark ≡ true }
+        ensures { (th : Meaning (List ℕ)) (clue : List ℕ) → th.rule clue ≡ Some (rule_held rule.now) → Works th self.old (infer clue (places_of places.now)) self.new result }
     {
         self.table.check_rule(rule, places)?;
         let Some(row) = rule.conclusion.row(self.table.size) else {

@@ -3,34 +3,30 @@ ghost use Rattle.std.specs.Prelude.{◌≡◌, ◌≤◌, map, length, take, Som
 ghost use Rattle.terms.specs.declared.fault.Cause.TheVariants.{RowMissed};
 ghost use Rattle.terms.specs.Faults.{answered, first_fault, first_unless};
 ghost use Rattle.terms.specs.Rows.{meets};
-ghost use Rattle.terms.specs.Stored.{row_of};
 ghost use Rattle.law.specs.Steps.{cheaper};
 ghost use Rattle.derivation.specs.Planned.{Planned, plan_checks};
 ghost use Rattle.derivation.specs.StateView.{job_in, plan_of};
+ghost use Rattle.derivation.specs.TableView.{fixed_of};
 
 use crate::state::State;
 use crate::table::Table;
-use terms::checks::need;
+use terms::checks::{need, need_none};
 use terms::fault::{Cause, Fault};
 use terms::row::Coefficients;
 
 impl Table {
-    // Refuses at the first of the first k rows that the plan misses.
-    pub(crate) fn check_met(&self, k: usize, plan: &[i32]) -> Result<(), Fault>
-        requires few { k ≤ 512 }
-        requires long { length plan.now ≤ self.now.size }
-        ensures { result ≡ answered (first_unless RowMissed 0 (map (meets plan.now) (map (row_of self.now.size) (take k self.now.rows)))) }
+    // Refuses at the first of the job's rows that the plan misses.
+    fn check_met(&self, plan: &[i32]) -> Result<(), Fault>
+        requires { length plan.now ≤ self.now.size }
+        ensures { result ≡ answered (first_unless RowMissed 0 (map (meets plan.now) (fixed_of self.now).given)) }
     {
-        for i in 0..k {
-            if !self.rows[i].is_met(plan) {
-                return Err(Fault {
-                    cause: Cause::RowMissed,
-                    spot: i,
-                    line: 0,
-                });
-            }
-        }
-        Ok(())
+        need_none(
+            self.rows
+                .iter()
+                .take(self.given)
+                .position(|row| !row.is_met(plan)),
+            Cause::RowMissed,
+        )
     }
 }
 
@@ -39,10 +35,8 @@ impl State {
     pub(crate) fn is_cheaper(&self, plan: &Coefficients) -> bool
         ensures { result ≡ cheaper (job_in self.now) (plan_of self.now.table.size self.now.taken) (take self.now.table.size plan.now.items) }
     {
-        match self.taken {
-            None => true,
-            Some(best) => self.cost(plan) < self.cost(&best),
-        }
+        self.taken
+            .is_none_or(|best| self.cost(plan) < self.cost(&best))
     }
 
     // A plan of the job's variables, within the limits, that meets the job's rows.
@@ -51,7 +45,7 @@ impl State {
     {
         need(values.len() == self.table.size, Cause::WrongLength, 0)?;
         let plan = Coefficients::new(values)?;
-        self.table.check_met(self.table.given, values)?;
+        self.table.check_met(values)?;
         Ok(plan)
     }
 }

@@ -1,5 +1,5 @@
 // Opening a job, looking at a proof, and closing it.
-ghost use Rattle.std.specs.Prelude.{◌≡◌, ◌≤◌, true, [], map, take};
+ghost use Rattle.std.specs.Prelude.{◌≡◌, ◌≤◌, true, [], map, length, take};
 ghost use Rattle.terms.specs.Stored.{row_of};
 ghost use Rattle.theories.specs.Meaning.{on_bytes};
 ghost use Rattle.law.specs.Law.{Law, Sized};
@@ -16,6 +16,7 @@ use crate::proof::Proof;
 use crate::state::State;
 use crate::table::Table;
 use crate::verdict::Verdict;
+use arrayvec::ArrayVec;
 use law::numbers::Numbers;
 use terms::row::{Coefficients, Row};
 use theories::theory::Theory;
@@ -25,39 +26,31 @@ impl State {
     fn look(&self) -> (usize, usize)
         ensures { result ≡ looked_at (job_in self.now) (moment_of self.now).pile }
     {
-        if self.table.marked {
-            (self.table.count, self.table.waiting + 1)
-        } else {
-            (self.table.given, 0)
+        match &self.table.waiting {
+            Some(waiting) => (self.table.len(), waiting.len() + 1),
+            None => (self.table.given, 0),
         }
     }
 
-    // The values of the job's variables in a plan.
+    // The values of the job's variables in a plan, whose number `From` has no place for.
     fn as_plan(&self, plan: &Coefficients) -> Numbers
         ensures { values_of result ≡ take self.now.table.size plan.now.items }
     {
-        let items = plan.items;
-        Numbers {
-            items,
-            count: self.table.size,
-        }
+        Numbers::from(&plan.items[..self.table.size])
     }
 
     // The plan taken, if one is.
     fn plan(&self) -> Option<Numbers>
         ensures { values_in result ≡ plan_of self.now.table.size self.now.taken }
     {
-        match self.taken {
-            None => None,
-            Some(plan) => Some(self.as_plan(&plan)),
-        }
+        self.taken.map(|plan| self.as_plan(&plan))
     }
 
     // What closing says.
     fn verdict(&self) -> Verdict
         ensures { verdict_of result ≡ verdict (job_in self.now) (moment_of self.now) }
     {
-        if self.table.marked {
+        if self.table.waiting.is_some() {
             return Verdict::Unfinished(self.plan());
         }
         match self.taken {
@@ -79,15 +72,10 @@ impl Job {
         ensures law { Law (job_of self) (on_bytes T.Theory.reads (T.Theory.means theory)) }
         ensures sized { Sized (job_of self) }
     {
-        let Job {
-            costs,
-            size,
-            rows,
-            count,
-        } = self;
+        let Job { costs, size, rows } = self;
         Proof {
             state: State {
-                table: begin(size, &rows, count),
+                table: begin(size, &rows),
                 costs,
                 taken: None,
             },
@@ -97,22 +85,20 @@ impl Job {
 }
 
 // The table of a proof that is opened with these rows.
-fn begin(size: usize, given: &[Row; 64], count: usize) -> Table
+fn begin(size: usize, given: &[Row]) -> Table
     requires narrow { size ≤ 16 }
-    requires few { count ≤ 64 }
-    ensures held { held_of result ≡ record { rows = map (row_of size) (take count given.now); heights = []; mark = true } }
-    ensures fixed { fixed_of result ≡ record { size = size; given = map (row_of size) (take count given.now) } }
+    requires few { length given.now ≤ 512 }
+    ensures held { held_of result ≡ record { rows = map (row_of size) given.now; heights = []; mark = true } }
+    ensures fixed { fixed_of result ≡ record { size = size; given = map (row_of size) given.now } }
 {
-    let mut rows = [Row::zeros(); 512];
-    rows[0..64].copy_from_slice(given);
+    let Ok(rows) = ArrayVec::try_from(given) else {
+        unreachable()
+    };
     Table {
         size,
-        given: count,
+        given: given.len(),
         rows,
-        count,
-        heights: [0; 512],
-        waiting: 0,
-        marked: true,
+        waiting: Some(ArrayVec::new()),
     }
 }
 

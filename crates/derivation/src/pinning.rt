@@ -1,28 +1,27 @@
 // How rows bound variables, and the point at which they hold all of them.
 ghost use Rattle.std.specs.Prelude.{◌≡◌, ◌+◌, ◌*◌, ◌<◌, ◌≤◌, map, length, take, Some, None, MatchResult, slice_index};
 ghost use Rattle.terms.specs.Faults.{answered, first_fault};
-ghost use Rattle.terms.specs.Integers.{eq_z, eq_zs};
-ghost use Rattle.terms.specs.Rows.{difference_row, meets};
+ghost use Rattle.terms.specs.Rows.{meets};
 ghost use Rattle.terms.specs.Stored.{row_of};
-ghost use Rattle.theories.specs.Meaning.{on_bytes};
 ghost use Rattle.theories.specs.Pairs.{every};
 ghost use Rattle.law.specs.Bounds.{bound, held_at, only_value};
 ghost use Rattle.law.specs.Calls.Call.{pin};
 ghost use Rattle.law.specs.Lines.{places_check, row_at};
-ghost use Rattle.law.specs.Pile.{called};
 ghost use Rattle.law.specs.Spelt.{places_of};
 ghost use Rattle.law.specs.Steps.{shuts_at};
 ghost use Rattle.derivation.specs.Pinned.{Fixes, Pinned, fixed_check, fixed_checks};
-ghost use Rattle.derivation.specs.ProofView.{job_held, moment_held};
+ghost use Rattle.derivation.specs.ProofView.{Does, job_held, meaning_held};
 ghost use Rattle.derivation.specs.StateView.{plan_of};
 ghost use Rattle.derivation.specs.TableView.{held_of};
 
 use crate::bounding::bound;
+use crate::lines::coefficient;
 use crate::proof::Proof;
+use crate::rows::place_of;
 use crate::state::State;
 use crate::table::Table;
 use law::premise::Places;
-use terms::checks::need;
+use terms::checks::{need, need_none};
 use terms::difference::Difference;
 use terms::fault::{Cause, Fault};
 use terms::row::{Coefficients, Row};
@@ -32,24 +31,12 @@ use theories::theory::Theory;
 fn only_value(above: Option<i64>, below: Option<i64>) -> Option<i32>
     ensures { result ≡ only_value above below }
 {
-    match (above, below) {
-        (Some(a), Some(b)) => lone_value(a, b),
-        _ => None,
-    }
-}
-
-// A bound from above, if the one from below is its opposite and it is within 1,000,000 of zero.
-fn lone_value(above: i64, below: i64) -> Option<i32>
-    ensures { result ≡ only_value (Some above) (Some below) }
-{
-    if -1_000_000 <= above && above <= 1_000_000 && below == -above {
-        Some(above as i32)
-    } else {
-        None
-    }
+    let value = coefficient(above?)?;
+    (below? == -i64::from(value)).then_some(value)
 }
 
 // The value at which two rows hold a variable.
+// That n is at most 16 is asked of a number alone here, in `chain_row` and `begin`: whoever calls them has it from a table or a job.
 fn held_at(n: usize, variable: usize, above: &Row, below: &Row) -> Option<i32>
     requires narrow { n ≤ 16 }
     requires within { variable < n }
@@ -82,16 +69,13 @@ impl Table {
     pub(crate) fn check_places(&self, places: &Places<'_>) -> Result<(), Fault>
         ensures { result ≡ answered (places_check (held_of self.now).rows (places_of places.now)) }
     {
-        for i in 0..places.len() {
-            if places.get(i) as usize >= self.len() {
-                return Err(Fault {
-                    cause: Cause::NoSuchPlace,
-                    spot: i,
-                    line: 0,
-                });
-            }
-        }
-        Ok(())
+        need_none(
+            places
+                .items
+                .iter()
+                .position(|item| place_of(item) >= self.len()),
+            Cause::NoSuchPlace,
+        )
     }
 
     // The value at which the rows of a variable's two places hold it.
@@ -101,8 +85,8 @@ impl Table {
         requires there { places_check (held_of self.now).rows (places_of places.now) ≡ None }
         ensures { result ≡ held_at self.now.size variable (row_at (held_of self.now).rows (slice_index (places_of places.now) (2 * variable))) (row_at (held_of self.now).rows (slice_index (places_of places.now) (2 * variable + 1))) }
     {
-        let above = self.row(places.get(2 * variable) as usize);
-        let below = self.row(places.get(2 * variable + 1) as usize);
+        let above = self.row(place_of(&places.items[2 * variable]));
+        let below = self.row(place_of(&places.items[2 * variable + 1]));
         held_at(self.size, variable, &above, &below)
     }
 
@@ -113,15 +97,9 @@ impl Table {
         ensures { MatchResult result (λ point. Fixes self.now.size (held_of self.now).rows (places_of places.now) point.items) (λ f. fixed_check self.now.size (held_of self.now).rows (places_of places.now) ≡ Some f) }
     {
         let mut items = [0; 16];
+        // `array::try_from_fn` doesn't tell that the values before a refusal are held.
         for i in 0..self.size {
-            let Some(value) = self.held(places, i) else {
-                return Err(Fault {
-                    cause: Cause::NotFixed,
-                    spot: i,
-                    line: 0,
-                });
-            };
-            items[i] = value;
+            items[i] = self.held(places, i).ok_or(Cause::NotFixed.at(i))?;
         }
         Ok(Coefficients { items })
     }
@@ -130,8 +108,8 @@ impl Table {
     fn is_met(&self, point: &Coefficients) -> bool
         ensures { result ≡ every (map (meets (take self.now.size point.now.items)) (held_of self.now).rows) }
     {
-        self.check_met(self.count, &point.items[0..self.size])
-            .is_ok()
+        let point = &point.items[..self.size];
+        self.rows.iter().all(|row| row.is_met(point))
     }
 }
 
@@ -149,20 +127,18 @@ impl State {
 impl<T: Theory> Proof<T> {
     // Whether a point misses a row, is not admitted, or costs no less than the plan taken.
     fn shuts_at(&self, point: &Coefficients) -> bool
-        ensures { result ≡ shuts_at (job_held self.now) (on_bytes T.Theory.reads (T.Theory.means self.now.theory)) (held_of self.now.state.table).rows (plan_of self.now.state.table.size self.now.state.taken) (take self.now.state.table.size point.now.items) }
+        ensures { result ≡ shuts_at (job_held self.now) (meaning_held T.Theory.reads T.Theory.means self.now) (held_of self.now.state.table).rows (plan_of self.now.state.table.size self.now.state.taken) (take self.now.state.table.size point.now.items) }
     {
         !self.state.table.is_met(point)
-            || !self.theory.admitted(&point.items[0..self.state.table.size])
+            || !self.theory.admitted(&point.items[..self.state.table.size])
             || !self.state.is_cheaper(point)
     }
 
     // Shuts the current subproblem by the one point that rows at these places, two for each variable, leave in it.
     pub fn pin(&mut self, places: Places<'_>) -> Result<(), Fault>
-        ensures step { (moment_held self.new, result) ≡ called (job_held self.old) (on_bytes T.Theory.reads (T.Theory.means self.old.theory)) (moment_held self.old) (pin (places_of places.entry)) }
-        ensures job { job_held self.new ≡ job_held self.old }
-        ensures theory { self.new.theory ≡ self.old.theory }
+        ensures { Does T.Theory.reads T.Theory.means self.old (pin (places_of places.entry)) self.new result }
     {
-        need(self.state.table.marked, Cause::NothingOpen, 0)?;
+        self.state.table.check_open()?;
         let point = self.state.check_pin(&places)?;
         need(self.shuts_at(&point), Cause::PointStaysOpen, 0)?;
         self.state.table.shut();

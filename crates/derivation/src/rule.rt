@@ -1,16 +1,13 @@
 // A rule as a theory tells it.
-ghost use Rattle.std.specs.Prelude.{◌≡◌, ◌≤◌, true, length};
+ghost use Rattle.std.specs.Prelude.{◌≡◌, true};
 ghost use Rattle.terms.specs.Limits.{right_limit, within};
 
+use arrayvec::ArrayVec;
 use terms::difference::Difference;
 
-// The first `count` premises count.
 #[derive(Drop)]
 pub struct KnownRule {
-    pub(crate) premises: [Difference; 4],
-    pub(crate) count: usize,
+    pub(crate) premises: ArrayVec<Difference, 4>,
     pub(crate) conclusion: Difference,
-    ghost four: { length premises ≡ 4 },
-    ghost few: { count ≤ 4 },
     ghost limited: { within right_limit conclusion.most ≡ true },
 }

@@ -2,10 +2,10 @@
 ghost use Rattle.std.specs.Prelude.{◌≡◌, map};
 ghost use Rattle.theories.specs.Meaning.{on_bytes};
 ghost use Rattle.law.specs.Law.{Closes, Kept, Law, Reached, Sized};
-ghost use Rattle.law.specs.Pile.{after, called, verdict};
+ghost use Rattle.law.specs.Pile.{after, verdict};
 ghost use Rattle.law.specs.StepView.{call_of};
 ghost use Rattle.derivation.specs.JobView.{job_of};
-ghost use Rattle.derivation.specs.ProofView.{job_held, moment_held};
+ghost use Rattle.derivation.specs.ProofView.{Does, job_held, meaning_held, moment_held};
 
 use crate::job::Job;
 use crate::proof::Proof;
@@ -16,10 +16,9 @@ use theories::theory::Theory;
 impl<T: Theory> Proof<T> {
     // Does a step.
     pub fn perform(&mut self, step: Step<'_>) -> Result<(), Fault>
-        ensures step { (moment_held self.new, result) ≡ called (job_held self.old) (on_bytes T.Theory.reads (T.Theory.means self.old.theory)) (moment_held self.old) (call_of step.entry) }
-        ensures job { job_held self.new ≡ job_held self.old }
-        ensures theory { self.new.theory ≡ self.old.theory }
+        ensures { Does T.Theory.reads T.Theory.means self.old (call_of step.entry) self.new result }
     {
+        // A match says which call: the kinds of step are closed, and each brings something else.
         match step {
             Step::Branch(coefficients, right) => self.branch(coefficients.values(), right),
             Step::Cut(line) => self.cut(&line),
@@ -32,14 +31,14 @@ impl<T: Theory> Proof<T> {
         }
     }
 
-    // Does steps one after another, and passes over those that are refused.
+    // Does steps one after another, and passes over those that are refused. `Does` tells of one call, and these are many.
     pub fn perform_all(&mut self, steps: &[Step<'_>])
-        ensures moment { moment_held self.new ≡ after (job_held self.old) (on_bytes T.Theory.reads (T.Theory.means self.old.theory)) (moment_held self.old) (map call_of steps.now) }
+        ensures moment { moment_held self.new ≡ after (job_held self.old) (meaning_held T.Theory.reads T.Theory.means self.old) (moment_held self.old) (map call_of steps.now) }
         ensures job { job_held self.new ≡ job_held self.old }
         ensures theory { self.new.theory ≡ self.old.theory }
     {
-        for i in 0..steps.len() {
-            let _ = self.perform(steps[i]);
+        for step in steps {
+            let _ = self.perform(*step);
         }
     }
 }

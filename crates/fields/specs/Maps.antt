@@ -4,7 +4,9 @@ use Rattle.terms.specs.declared.fault.Cause.TheVariants.{BadMap}
 use Rattle.terms.specs.declared.fault.Fault.{Fault}
 use Rattle.terms.specs.Faults.{first_unless}
 use Rattle.terms.specs.Integers.{eq_z}
-use Rattle.fields.specs.Bytes.{int32_read}
+use Rattle.fields.specs.declared.maps.Mapped.{Mapped}
+use Rattle.fields.specs.Bytes.{int32_read, nat16_read}
+use Rattle.fields.specs.Rest.{and_then}
 
 -- whether the lowest bit is set
 abbrev pub odd : ℕ → Bool
@@ -37,3 +39,7 @@ map_tests n i m (v ∷ vs) = (not (odd m) || (nat_lt i n && not (eq_z v (pos 0))
 
 abbrev pub map_fault : ℕ → ℕ → List ℤ → Option Fault
 map_fault n m vs = first_unless BadMap 0 (map_tests n 0 m vs)
+
+-- a map and the numbers of its bits, before its bits are tested
+abbrev pub map_read : List ℕ → Result (Mapped × List ℕ) Fault
+map_read bytes = and_then (nat16_read bytes) (λ m. and_then (numbers_read m.0 m.1) (λ vs. Ok (record { map = m.0; numbers = vs.0 }, vs.1)))

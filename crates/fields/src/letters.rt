@@ -8,9 +8,5 @@ use terms::fault::{Cause, Fault};
 pub fn out_of_phase() -> Fault
     ensures { result ≡ out_of_phase }
 {
-    Fault {
-        cause: Cause::LetterOutOfPhase,
-        spot: 0,
-        line: 0,
-    }
+    Cause::LetterOutOfPhase.into()
 }

@@ -1,106 +1,149 @@
 // A job in words, for whoever writes its rules.
 use files::reader::JobFile;
-use files::theory::{FileTheory, Named};
-use std::io;
+use files::theory::FileTheory;
+use std::{fmt, io};
 use terms::row::Row;
 use theories::parts::{Batch, Call};
 
+// What is written in words, as a part of a job of n variables.
+trait InWords {
+    fn write<W: fmt::Write>(&self, n: usize, f: &mut fmt::Formatter<W>) -> fmt::Result;
+}
+
+#[derive(Clone, Copy)]
+struct Part<'a, T> {
+    n: usize,
+    part: &'a T,
+}
+
+impl<T: InWords> fmt::Display for Part<'_, T> {
+    fn fmt<W: fmt::Write>(&self, f: &mut fmt::Formatter<W>) -> fmt::Result {
+        self.part.write(self.n, f)
+    }
+}
+
+// Line by line, where a value would print itself as one.
 // The theory, the variables with their costs, the rows as inequalities, and the theory's parts.
-pub fn print_job(rt: &HostRuntime, file: &JobFile) -> io::Result<()> {
-    let theory = match file.theory.named {
-        Named::Bare => "bare",
-        Named::Shared => "shared results",
-        Named::OneVat => "one vat",
+pub fn print_job(rt: &impl Print, file: &JobFile) -> io::Result<()> {
+    // The cases are closed, and each prints something else.
+    let theory = match file.theory {
+        FileTheory::Bare => "bare",
+        FileTheory::Shared(_) => "shared results",
+        FileTheory::OneVat(_) => "one vat",
     };
     println!(rt; "theory {theory}")?;
-    let n = file.job.size();
     for (i, cost) in file.job.costs().iter().enumerate() {
         println!(rt; "variable v{i} cost {cost}")?;
     }
-    for (i, row) in file.job.rows().iter().enumerate() {
-        print!(rt; "row {i}: ")?;
-        print_row(rt, n, row)?;
+    let n = file.job.size();
+    print_each(rt, "row", n, file.job.rows())?;
+    match &file.theory {
+        FileTheory::Bare => Ok(()),
+        FileTheory::Shared(theory) => print_each(rt, "call", n, theory.calls()),
+        FileTheory::OneVat(theory) => print_each(rt, "batch", n, theory.batches()),
     }
-    print_parts(rt, n, &file.theory)
+}
+
+// A line for each part: its kind, its number, and the part in words.
+fn print_each<T: InWords>(rt: &impl Print, kind: &str, n: usize, parts: &[T]) -> io::Result<()> {
+    for (i, part) in parts.iter().enumerate() {
+        let part = Part { n, part };
+        println!(rt; "{kind} {i}: {part}")?;
+    }
+    Ok(())
 }
 
 // The sum of the terms, and the right side.
-fn print_row(rt: &HostRuntime, n: usize, row: &Row) -> io::Result<()> {
-    let mut first = true;
-    for (i, coefficient) in row.coefficients.items.iter().take(n).enumerate() {
-        if *coefficient != 0 {
-            print_term(rt, first, *coefficient as i64, i)?;
-            first = false;
+impl InWords for Row {
+    fn write<W: fmt::Write>(&self, n: usize, f: &mut fmt::Formatter<W>) -> fmt::Result {
+        let mut first = true;
+        for (variable, coefficient) in self.coefficients.items.iter().take(n).enumerate() {
+            if *coefficient != 0 {
+                let sign = sign(first, *coefficient < 0);
+                let term = Term {
+                    size: coefficient.unsigned_abs(),
+                    variable,
+                };
+                write!(f, "{sign}{term}")?;
+                first = false;
+            }
         }
+        if first {
+            write!(f, "0")?;
+        }
+        let right = self.right;
+        write!(f, " <= {right}")
     }
-    if first {
-        print!(rt; "0")?;
-    }
-    let right = row.right;
-    println!(rt; " <= {right}")
 }
 
-// A term with its sign, which stands off from the terms before it.
-fn print_term(rt: &HostRuntime, first: bool, coefficient: i64, variable: usize) -> io::Result<()> {
-    let sign = match (first, coefficient < 0) {
+// The sign of a term, which stands off from the terms before it.
+fn sign(first: bool, negative: bool) -> &'static str {
+    match (first, negative) {
         (true, true) => "-",
         (true, false) => "",
         (false, true) => " - ",
         (false, false) => " + ",
-    };
-    let size = coefficient.unsigned_abs();
-    if size == 1 {
-        print!(rt; "{sign}v{variable}")
-    } else {
-        print!(rt; "{sign}{size} v{variable}")
     }
 }
 
-fn print_parts(rt: &HostRuntime, n: usize, theory: &FileTheory) -> io::Result<()> {
-    match theory.named {
-        Named::Bare => Ok(()),
-        Named::Shared => {
-            for (i, call) in theory.calls.calls().iter().enumerate() {
-                print_call(rt, n, i, call)?;
-            }
-            Ok(())
-        }
-        Named::OneVat => {
-            for (i, batch) in theory.batches.batches().iter().enumerate() {
-                print_batch(rt, n, i, batch)?;
-            }
-            Ok(())
+// A term without its sign.
+#[derive(Clone, Copy)]
+struct Term {
+    size: u32,
+    variable: usize,
+}
+
+impl fmt::Display for Term {
+    fn fmt<W: fmt::Write>(&self, f: &mut fmt::Formatter<W>) -> fmt::Result {
+        let size = self.size;
+        let variable = self.variable;
+        if size == 1 {
+            write!(f, "v{variable}")
+        } else {
+            write!(f, "{size} v{variable}")
         }
     }
 }
 
-// As `call 0: f5(v0, v1) = v2`; a second argument that is absent is left out.
-fn print_call(rt: &HostRuntime, n: usize, index: usize, call: &Call) -> io::Result<()> {
-    let function = call.function;
-    print!(rt; "call {index}: f{function}(")?;
-    print_place(rt, n, call.first)?;
-    if call.second < 16 {
-        print!(rt; ", ")?;
-        print_place(rt, n, call.second)?;
+// As `f5(v0, v1) = v2`; a second argument that is absent is left out.
+impl InWords for Call {
+    fn write<W: fmt::Write>(&self, n: usize, f: &mut fmt::Formatter<W>) -> fmt::Result {
+        let function = self.function;
+        let first = Place::new(n, self.first);
+        write!(f, "f{function}({first}")?;
+        if self.second < 16 {
+            let second = Place::new(n, self.second);
+            write!(f, ", {second}")?;
+        }
+        let result = Place::new(n, self.result);
+        write!(f, ") = {result}")
     }
-    print!(rt; ") = ")?;
-    print_place(rt, n, call.result)?;
-    println!(rt; "")
 }
 
-// As `batch 0: starts at v0, takes 3`.
-fn print_batch(rt: &HostRuntime, n: usize, index: usize, batch: &Batch) -> io::Result<()> {
-    print!(rt; "batch {index}: starts at ")?;
-    print_place(rt, n, batch.start)?;
-    let duration = batch.duration;
-    println!(rt; ", takes {duration}")
+// As `starts at v0, takes 3`.
+impl InWords for Batch {
+    fn write<W: fmt::Write>(&self, n: usize, f: &mut fmt::Formatter<W>) -> fmt::Result {
+        let start = Place::new(n, self.start);
+        let duration = self.duration;
+        write!(f, "starts at {start}, takes {duration}")
+    }
 }
 
 // A variable, or 0 at a place that no variable has.
-fn print_place(rt: &HostRuntime, n: usize, place: u8) -> io::Result<()> {
-    if (place as usize) < n {
-        print!(rt; "v{place}")
-    } else {
-        print!(rt; "0")
+#[derive(Clone, Copy)]
+struct Place(Option<u8>);
+
+impl Place {
+    fn new(n: usize, place: u8) -> Place {
+        Place(Some(place).filter(|place| usize::from(*place) < n))
+    }
+}
+
+impl fmt::Display for Place {
+    fn fmt<W: fmt::Write>(&self, f: &mut fmt::Formatter<W>) -> fmt::Result {
+        match self.0 {
+            Some(place) => write!(f, "v{place}"),
+            None => write!(f, "0"),
+        }
     }
 }

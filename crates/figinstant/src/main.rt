@@ -5,14 +5,13 @@
 
 mod input;
 mod listing;
-mod refusal;
-mod verdict;
 
 use derivation::verdict::Verdict;
 use files::job_file::read_job;
 use files::reader::JobFile;
-use files::theory::{FileTheory, Named};
+use files::theory::FileTheory;
 use files::two_files::check;
+use std::rt::Runtime;
 use std::{env, io};
 use theories::bare::Bare;
 
@@ -27,47 +26,43 @@ fn main(rt: HostRuntime) -> io::Result<()> {
 }
 
 // The job in words, and what is known of it before any step.
-fn job_alone(rt: &HostRuntime) -> io::Result<()> {
+fn job_alone(rt: &impl Runtime) -> io::Result<()> {
     let job = input::read_file(rt, "job.bct")?;
     match read_job(job.as_slice()) {
         Ok(spelt) => {
             listing::print_job(rt, &spelt)?;
-            verdict::print_verdict(rt, without_steps(spelt))
+            rt.println(without_steps(spelt))
         }
-        Err(fault) => refusal::print_refusal(rt, &fault),
+        Err(fault) => rt.println(fault),
     }
 }
 
 // What a derivation of no steps shows.
 fn without_steps(spelt: JobFile) -> Verdict {
     let JobFile { job, theory } = spelt;
-    let FileTheory {
-        named,
-        calls,
-        batches,
-    } = theory;
-    match named {
-        Named::Bare => job.open(Bare).close(),
-        Named::Shared => job.open(calls).close(),
-        Named::OneVat => job.open(batches).close(),
+    // Each case opens the job at a type of its own, which no closure can take.
+    match theory {
+        FileTheory::Bare => job.open(Bare).close(),
+        FileTheory::Shared(calls) => job.open(calls).close(),
+        FileTheory::OneVat(batches) => job.open(batches).close(),
     }
 }
 
 // What the trace shows of the job.
-fn check_files(rt: &HostRuntime) -> io::Result<()> {
+fn check_files(rt: &impl Runtime) -> io::Result<()> {
     let job = input::read_file(rt, "job.bct")?;
     let trace = input::read_file(rt, "trace.bct")?;
     match check(job.as_slice(), trace.as_slice()) {
-        Ok(shown) => verdict::print_verdict(rt, shown),
-        Err(fault) => refusal::print_refusal(rt, &fault),
+        Ok(shown) => rt.println(shown),
+        Err(fault) => rt.println(fault),
     }
 }
 
 // The job in words.
-fn list(rt: &HostRuntime) -> io::Result<()> {
+fn list(rt: &impl Runtime) -> io::Result<()> {
     let job = input::read_file(rt, "job.bct")?;
     match read_job(job.as_slice()) {
         Ok(spelt) => listing::print_job(rt, &spelt),
-        Err(fault) => refusal::print_refusal(rt, &fault),
+        Err(fault) => rt.println(fault),
     }
 }

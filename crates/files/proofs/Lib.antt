@@ -1,4 +1,3 @@
-pub mod JobRecordsRead
 pub mod RecordsRead
 pub mod RowRecord
 pub mod Shorter

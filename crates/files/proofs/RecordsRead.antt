@@ -37,9 +37,16 @@ module _ {S : Type 0} (way : Way S) (start : S) (bytes : List ℕ) where
   unfolding all_records
   all_are = refl
 
+  pub begins : (nth : ℕ) (s : S) (bs : List ℕ) → nth ≡ 0 → s ≡ start → bs ≡ bytes → (fuel : ℕ) × (length bs < fuel) × (records_read way (length bytes) fuel nth s bs ≡ all_records way start bytes)
+  begins nth s bs n e f = let l = ap length f in (suc (length bytes), omega (arith, l), (λ i. records_read way (length bytes) (suc (length bytes)) (n i) (e i) (f i)) ∙ all_are)
+
   -- a file that is not too long
   pub fits_then : unless (leb (length bytes) 65536) FileTooLong 0 ≡ None → file_read way start bytes ≡ all_records way start bytes
   fits_then e = ap (λ o. then_file (placed way.file 0 0 (answered o)) (λ fits. all_records way start bytes)) e
+
+-- the same, of bytes and a number that are said in other words
+pub moved : {S : Type 0} (way : Way S) (total : ℕ) (s : S) (target : Result S FileFault) (nth n : ℕ) (bytes bs : List ℕ) → n ≡ nth → bs ≡ bytes → (fuel : ℕ) × (length bytes < fuel) × (records_read way total fuel nth s bytes ≡ target) → (fuel : ℕ) × (length bs < fuel) × (records_read way total fuel n s bs ≡ target)
+moved way total s target nth n bytes bs e f r = let l = ap length f in (r.0, omega (arith, l, r.1), (λ i. records_read way total r.0 (e i) s (f i)) ∙ r.2)
 
 -- ---- an answer and its fault, placed
 pub placed_ok : {X : Type 0} (file : File) (nth byte : ℕ) (r : Result X Fault) (x : X) → Ok x ≡ placed file nth byte r → r ≡ Ok x

@@ -1,8 +1,6 @@
 -- The job file: a theory's letter, variables, rows, the theory's parts, and the end.
-use Rattle.std.specs.Prelude.{ℕ, zero, suc, ◌+◌, ◌-◌, Bool, true, false, cond, List, [], length, take, Ok, Err, Result, ◌==◌, nat_le, slice_index}
-use Rattle.terms.specs.declared.fault.Cause.TheVariants.{FileTooLong, TrailingBytes}
+use Rattle.std.specs.Prelude.{ℕ, Bool, true, false, cond, List, [], take, Ok, Err, Result, ◌==◌, slice_index}
 use Rattle.terms.specs.declared.fault.Fault.{Fault}
-use Rattle.terms.specs.Faults.{answered, otherwise, unless}
 use Rattle.theories.specs.declared.parts.Batch.{Batch}
 use Rattle.theories.specs.declared.parts.Call.{Call}
 use Rattle.theories.specs.OneVat.{batch_added}
@@ -15,8 +13,8 @@ use Rattle.files.specs.declared.records.Kind.TheVariants.{Bare, Shared, OneVat, 
 use Rattle.files.specs.declared.records.Phase.{Phase}
 use Rattle.files.specs.declared.records.Phase.TheVariants.{Start, Variables, Rows, Parts, Ended}
 use Rattle.fields.specs.Bodies.{body_read}
-use Rattle.fields.specs.Bytes.{byte_read, ends, int32_read, nat32_read, number_read, out_of_phase}
-use Rattle.files.specs.Places.{fault_at, placed, then_file}
+use Rattle.fields.specs.Bytes.{byte_read, int32_read, nat32_read, number_read, out_of_phase}
+use Rattle.files.specs.Records.{Way, file_read}
 use Rattle.fields.specs.Rest.{and_then}
 
 -- ---- letters and phases
@@ -105,10 +103,6 @@ record_read s bytes = and_then (byte_read bytes) (λ letter. and_then (stepped s
 abbrev pub start : Reading
 start = record { phase = Start; job = no_job; parts = bare }
 
--- a file that has been read ends with its last record
-abbrev pub at_end : ℕ → ℕ → Reading → List ℕ → Result Reading FileFault
-at_end total nth s bytes = placed inJob nth (total - length bytes) (otherwise (unless (length bytes == 0) TrailingBytes 0) s)
-
 abbrev pub ended : Phase → Bool
 ended Start = false
 ended Variables = false
@@ -116,25 +110,14 @@ ended Rows = false
 ended Parts = false
 ended Ended = true
 
-abbrev pub and_records : (Reading → List ℕ → Result Reading FileFault) → Result (Reading × List ℕ) FileFault → Result Reading FileFault
-and_records go (Err f) = Err f
-and_records go (Ok p) = go p.0 p.1
-
--- the records from the nth on; their number is at most `fuel`, since each has a byte at least
-abbrev pub records_read : ℕ → ℕ → ℕ → Reading → List ℕ → Result Reading FileFault
-records_read total zero nth s bytes = Err (fault_at inJob nth (total - length bytes) ends)
-records_read total (suc fuel) nth s bytes =
-    cond (ended s.phase) (at_end total nth s bytes) (and_records (records_read total fuel (nth + 1)) (placed inJob nth (total - length bytes) (record_read s bytes)))
+-- how a job file is read
+abbrev pub job_way : Way Reading
+job_way = record { file = inJob; ended = λ s. ended s.phase; one = record_read }
 
 abbrev pub job_and_parts : Result Reading FileFault → Result (Job × TheoryParts) FileFault
 job_and_parts (Ok s) = Ok (s.job, s.parts)
 job_and_parts (Err f) = Err f
 
-unfoldable pub all_records : List ℕ → Result Reading FileFault
-all_records bytes = records_read (length bytes) (suc (length bytes)) 0 start bytes
-
--- at most 65,536 bytes: the job and the theory that they spell, or the first fault and its place
+-- the job and the theory that the bytes spell, or the first fault and its place
 abbrev pub job_file : List ℕ → Result (Job × TheoryParts) FileFault
-job_file bytes =
-    then_file (placed inJob 0 0 (answered (unless (nat_le (length bytes) 65536) FileTooLong 0)))
-    (λ fits. job_and_parts (all_records bytes))
+job_file bytes = job_and_parts (file_read job_way start bytes)

@@ -1,12 +1,9 @@
 -- The readings that a job file's reader stands for.
-use Rattle.std.specs.Prelude.{ℕ, List, take, Ok, Err, Result}
+use Rattle.std.specs.Prelude.{ℕ, List, Ok, Err, Result}
 use Rattle.std.specs.Borrow.{Bor}
 use Rattle.terms.specs.declared.fault.Fault.{Fault}
-use Rattle.theories.specs.declared.parts.Batch.{Batch}
-use Rattle.theories.specs.declared.parts.Call.{Call}
 use Rattle.files.specs.declared.theory.FileTheory.{FileTheory}
-use Rattle.files.specs.declared.theory.Named.{Named}
-use Rattle.files.specs.declared.theory.Named.TheVariants.{Bare, Shared, OneVat}
+use Rattle.files.specs.declared.theory.FileTheory.TheVariants.{Bare, Shared, OneVat}
 use Rattle.law.specs.Jobs.{Job}
 use Rattle.derivation.specs.JobView.{job_of}
 use Rattle.files.specs.declared.fault.FileFault.{FileFault}
@@ -16,14 +13,10 @@ use Rattle.files.specs.declared.records.Kind.{Kind}
 use Rattle.files.specs.declared.records.Phase.{Phase}
 use Rattle.files.specs.JobFiles.{Reading, TheoryParts, bare, shared, one_vat}
 
--- the parts that count under a letter
-abbrev pub parts_by : Named → List Call → List Batch → TheoryParts
-parts_by Bare cs bs = bare
-parts_by Shared cs bs = shared cs
-parts_by OneVat cs bs = one_vat bs
-
 abbrev pub parts_of : FileTheory → TheoryParts
-parts_of t = parts_by t.named (take t.calls.count t.calls.calls) (take t.batches.count t.batches.batches)
+parts_of Bare = bare
+parts_of (Shared t) = shared t.parts.items
+parts_of (OneVat t) = one_vat t.parts.items
 
 -- what is left after a call, with the rest of the file
 abbrev pub leaving : {X : Type 0} → X → Result (Bor (List ℕ)) Fault → Result (X × List ℕ) Fault
@@ -31,7 +24,7 @@ leaving x (Ok rest) = Ok (x, rest.now)
 leaving x (Err f) = Err f
 
 abbrev pub reading_of : JobReader → Reading
-reading_of r = record { phase = r.phase; job = job_of r.job; parts = parts_of r.theory }
+reading_of r = record { phase = r.phase; job = job_of r.file.job; parts = parts_of r.file.theory }
 
 -- the phase that a letter leads to, with the record's kind
 abbrev pub moved : Phase → Result Kind Fault → Result (Phase × Kind) Fault

@@ -2,6 +2,7 @@ pub mod JobFiles
 pub mod JobViews
 pub mod Places
 pub mod Records
+pub mod Refusals
 pub mod Shown
 pub mod TraceFiles
 pub mod TraceViews

@@ -6,10 +6,10 @@ ghost use Rattle.files.specs.JobFiles.{batch_of, batch_read, call_of, call_read,
 ghost use Rattle.files.specs.JobViews.{leaving, parts_of};
 ghost use Rattle.fields.specs.Rest.{with_rest};
 
-use crate::theory::{FileTheory, Named};
+use crate::theory::FileTheory;
 use derivation::job::Job;
 use fields::body::read_body;
-use fields::bytes::{file_ends, read_i32, read_u8, read_u32};
+use fields::bytes::{file_ends, read};
 use fields::letters::out_of_phase;
 use terms::fault::Fault;
 use theories::parts::{Batch, Call};
@@ -18,7 +18,7 @@ use theories::parts::{Batch, Call};
 pub(crate) fn read_variable<'a>(job: &mut Job, fields: &'a [u8]) -> Result<&'a [u8], Fault>
     ensures { leaving (job_of job.new) result ≡ variable_read (job_of job.old) fields.now }
 {
-    let (cost, rest) = read_i32(fields)?;
+    let (cost, rest) = read(fields)?;
     job.variable(cost)?;
     Ok(rest)
 }
@@ -27,7 +27,7 @@ pub(crate) fn read_variable<'a>(job: &mut Job, fields: &'a [u8]) -> Result<&'a [
 pub(crate) fn read_row<'a>(job: &mut Job, fields: &'a [u8]) -> Result<&'a [u8], Fault>
     ensures { leaving (job_of job.new) result ≡ row_read (job_of job.old) fields.now }
 {
-    let (letter, body) = read_u8(fields)?;
+    let (letter, body) = read::<u8, _>(fields)?;
     let n = job.size();
     let (body, rest) = read_body(n, body)?;
     job.row(&body.numbers[0..n], char::from(letter), body.right)?;
@@ -38,55 +38,41 @@ pub(crate) fn read_row<'a>(job: &mut Job, fields: &'a [u8]) -> Result<&'a [u8], 
 fn read_call_fields(fields: &[u8]) -> Result<(Call, &[u8]), Fault>
     ensures { with_rest result ≡ number_read 4 call_of fields.now }
 {
-    match fields {
-        [function, first, second, result, rest @ ..] => {
-            Ok((
-                Call {
-                    function: *function,
-                    first: *first,
-                    second: *second,
-                    result: *result,
-                },
-                rest,
-            ))
-        }
-        _ => Err(file_ends()),
-    }
+    let [function, first, second, result, rest @ ..] = fields else {
+        return Err(file_ends());
+    };
+    Ok((Call::from([*function, *first, *second, *result]), rest))
 }
 
 // A call of shared results; another theory has no such record.
 pub(crate) fn read_call<'a>(theory: &mut FileTheory, fields: &'a [u8]) -> Result<&'a [u8], Fault>
     ensures { leaving (parts_of theory.new) result ≡ call_read (parts_of theory.old) fields.now }
 {
-    match theory.named {
-        Named::Shared => {
-            let (call, rest) = read_call_fields(fields)?;
-            theory.calls.add(call)?;
-            Ok(rest)
-        }
-        _ => Err(out_of_phase()),
-    }
+    let FileTheory::Shared(calls) = theory else {
+        return Err(out_of_phase());
+    };
+    let (call, rest) = read_call_fields(fields)?;
+    calls.add(call)?;
+    Ok(rest)
 }
 
 // The fields of a batch: start and duration.
 fn read_batch_fields(fields: &[u8]) -> Result<(Batch, &[u8]), Fault>
     ensures { with_rest result ≡ batch_of fields.now }
 {
-    let (start, fields) = read_u8(fields)?;
-    let (duration, rest) = read_u32(fields)?;
+    let (start, fields) = read(fields)?;
+    let (duration, rest) = read(fields)?;
     Ok((Batch { start, duration }, rest))
 }
 
-// A batch of one vat; another theory has no such record.
+// A batch of one vat; another theory has no such record. A function for both kinds of part would be told the case and the reader.
 pub(crate) fn read_batch<'a>(theory: &mut FileTheory, fields: &'a [u8]) -> Result<&'a [u8], Fault>
     ensures { leaving (parts_of theory.new) result ≡ batch_read (parts_of theory.old) fields.now }
 {
-    match theory.named {
-        Named::OneVat => {
-            let (batch, rest) = read_batch_fields(fields)?;
-            theory.batches.add(batch)?;
-            Ok(rest)
-        }
-        _ => Err(out_of_phase()),
-    }
+    let FileTheory::OneVat(batches) = theory else {
+        return Err(out_of_phase());
+    };
+    let (batch, rest) = read_batch_fields(fields)?;
+    batches.add(batch)?;
+    Ok(rest)
 }

@@ -1,6 +1,7 @@
 // Job and trace files.
 #![tactic(auto)]
 
+mod cursor;
 pub mod fault;
 pub mod job_file;
 pub mod job_records;

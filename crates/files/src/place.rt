@@ -9,15 +9,12 @@ use terms::fault::Fault;
 pub fn at<T>(answer: Result<T, Fault>, file: File, nth: usize, byte: usize) -> Result<T, FileFault>
     ensures { result ≡ placed file nth byte answer }
 {
-    match answer {
-        Ok(value) => Ok(value),
-        Err(fault) => Err(FileFault {
-            fault,
-            file,
-            nth,
-            byte,
-        }),
-    }
+    answer.map_err(|fault| FileFault {
+        fault,
+        file,
+        nth,
+        byte,
+    })
 }
 
 // The bytes from a fault's record on, as a part of the file in which it lies; none past that file's end.

@@ -6,8 +6,7 @@ use derivation::job::Job;
 #[derive(Drop)]
 pub struct JobReader {
     pub phase: Phase,
-    pub job: Job,
-    pub theory: FileTheory,
+    pub file: JobFile,
 }
 
 // A job and its theory, as a file spells them.

@@ -10,17 +10,17 @@ ghost use Rattle.files.specs.Shown.{Shown};
 ghost use Rattle.files.specs.TraceFiles.{following, record_done, trace_file, trace_verdict};
 ghost use Rattle.files.specs.TraceViews.{moment_left, record_seen, verdict_said};
 
+use crate::cursor::Cursor;
 use crate::fault::{File, FileFault};
-use crate::place::at;
 use derivation::job::Job;
 use derivation::proof::Proof;
 use derivation::verdict::Verdict;
 use spelling::step_reader::read_step;
-use terms::checks::need;
-use terms::fault::{Cause, Fault};
+use terms::fault::Fault;
 use theories::theory::Theory;
 
-// Does the step of one record on a proof of n variables; whether it is the end, and the bytes after it.
+// n comes beside the proof, which does not tell it.
+// Does the step of one record on a proof of n variables; whether it is the end, and the bytes after it, which the end has too.
 fn do_record<'a, T: Theory>(
     proof: &mut Proof<T>,
     n: usize,
@@ -48,32 +48,14 @@ fn follow<T: Theory>(proof: &mut Proof<T>, n: usize, trace: &[u8]) -> Result<(),
     ensures job { job_held proof.new ≡ job_held proof.old }
     ensures theory { proof.new.theory ≡ proof.old.theory }
 {
-    at(
-        need(trace.len() <= 65_536, Cause::FileTooLong, 0),
-        File::Trace,
-        0,
-        0,
-    )?;
-    let mut bytes = trace;
-    let mut nth = 0;
+    let mut records = Cursor::open(File::Trace, trace)?;
     let mut ended = false;
     while !ended {
-        let (end, rest) = at(
-            do_record(proof, n, bytes),
-            File::Trace,
-            nth,
-            trace.len() - bytes.len(),
-        )?;
+        let (end, rest) = records.place(do_record(proof, n, records.bytes))?;
+        records.pass(rest);
         ended = end;
-        bytes = rest;
-        nth += 1;
     }
-    at(
-        need(bytes.is_empty(), Cause::TrailingBytes, 0),
-        File::Trace,
-        nth,
-        trace.len() - bytes.len(),
-    )
+    records.end()
 }
 
 // What a trace shows of a job with this theory, or the trace's first fault with its place.

@@ -8,7 +8,7 @@ ghost use Rattle.files.specs.TwoFiles.{LawOf, TrueOf, checked};
 use crate::fault::FileFault;
 use crate::job_file::read_job;
 use crate::reader::JobFile;
-use crate::theory::{FileTheory, Named};
+use crate::theory::FileTheory;
 use crate::trace_file::check_trace;
 use derivation::verdict::Verdict;
 use theories::bare::Bare;
@@ -20,14 +20,10 @@ pub fn check(job: &[u8], trace: &[u8]) -> Result<Verdict, FileFault>
     ensures law { LawOf (job_file job.now) }
 {
     let JobFile { job, theory } = read_job(job)?;
-    let FileTheory {
-        named,
-        calls,
-        batches,
-    } = theory;
-    match named {
-        Named::Bare => check_trace(job, Bare, trace),
-        Named::Shared => check_trace(job, calls, trace),
-        Named::OneVat => check_trace(job, batches, trace),
+    // Each case calls at a type of its own, which no closure can take.
+    match theory {
+        FileTheory::Bare => check_trace(job, Bare, trace),
+        FileTheory::Shared(calls) => check_trace(job, calls, trace),
+        FileTheory::OneVat(batches) => check_trace(job, batches, trace),
     }
 }

@@ -2,6 +2,7 @@
 use crate::outcome::{accepts, refuses};
 use files::job_file::read_job;
 use files::place::rest;
+use files::theory::FileTheory;
 use std::test::Fail;
 
 const JOB: &[u8] =
@@ -38,7 +39,10 @@ fn the_job_of_two_batches(rt: HostRuntime) -> Result<(), Fail> {
             assert_eq!(rt; file.job.size(), 2);
             assert_eq!(rt; file.job.costs(), [1, 1].as_slice());
             assert_eq!(rt; file.job.rows().len(), 2);
-            assert_eq!(rt; file.theory.batches.batches().len(), 2);
+            let FileTheory::OneVat(vat) = &file.theory else {
+                return Err(Fail::new("another theory"));
+            };
+            assert_eq!(rt; vat.batches().len(), 2);
             Ok(())
         }
     }

@@ -1,29 +1,31 @@
 // Short lists of numbers: how they are made and read.
-ghost use Rattle.std.specs.Prelude.{◌≡◌, length, take};
+ghost use Rattle.std.specs.Prelude.{◌≡◌, take};
 ghost use Rattle.law.specs.NumbersView.{values_of};
 
-// At most sixteen numbers: the first `count`.
-#[derive(Clone, Copy)]
+// At most sixteen numbers: the first `count`. An `ArrayVec` is not `Copy`, as steps are.
+#[derive(Clone, Copy, Debug)]
 pub struct Numbers {
     pub items: [i32; 16],
     pub count: usize,
 }
 
-impl Numbers {
-    // The first sixteen of the values.
-    pub fn of(values: &[i32]) -> Numbers
-        ensures { values_of result ≡ take 16 values.now }
-    {
+// The first sixteen of the values.
+impl From<&[i32]> for Numbers {
+    ghost from_gives = { λ values numbers. values_of numbers ≡ take 16 values.now };
+
+    fn from(values: &[i32]) -> Numbers {
         let mut items = [0; 16];
         let count = values.len().min(16);
-        items[0..count].copy_from_slice(&values[0..count]);
+        items[..count].copy_from_slice(&values[..count]);
         Numbers { items, count }
     }
+}
 
+impl Numbers {
     // The values.
     pub fn values(&self) -> &[i32]
         ensures { result.now ≡ values_of self.now }
     {
-        &self.items[0..self.count.min(16)]
+        &self.items[..self.count.min(16)]
     }
 }

@@ -82,27 +82,17 @@ fn filled_by_branches(rt: HostRuntime) -> Result<(), Fail> {
 }
 
 // Eight lines, each 0 <= 0 from the first two rows.
-fn eight_lines() -> [u8; 104] {
-    let mut bytes = [0; 104];
-    for i in 0..8usize {
-        bytes[13 * i] = 2;
-        bytes[13 * i + 3] = 1;
-        bytes[13 * i + 5] = 1;
-        bytes[13 * i + 7] = 1;
-        bytes[13 * i + 9] = 1;
-    }
-    bytes
-}
+const EIGHT_LINES: &[[u8; 13]; 8] = &[[2, 0, 0, 1, 0, 1, 0, 1, 0, 1, 0, 0, 0]; 8];
 
 // A chain needs room for all its lines, and adds one row.
 fn chains_near_the_end(rt: &impl Abort, proof: &mut Proof<SharedResults>) -> Result<(), Fail> {
-    let bytes = eight_lines();
+    let bytes = EIGHT_LINES.as_flattened();
     assert_eq!(rt; proof.look(), (504, 1));
-    proof.chain(lines(8, &bytes))?;
+    proof.chain(lines(8, bytes))?;
     assert_eq!(rt; proof.look(), (505, 1));
-    refused(rt, proof.chain(lines(8, &bytes)), Cause::Full, 0, 0);
+    refused(rt, proof.chain(lines(8, bytes)), Cause::Full, 0, 0);
     assert_eq!(rt; proof.look(), (505, 1));
-    proof.chain(lines(7, &bytes))?;
+    proof.chain(lines(7, bytes))?;
     assert_eq!(rt; proof.look(), (506, 1));
     Ok(())
 }

@@ -1,13 +1,13 @@
 // What the tests give and compare. A premise is four bytes: a place and a multiplier, low bytes first; a place is two.
 use derivation::verdict::Verdict;
-use law::premise::{Line, Lines, Places, Premises};
+use law::premise::{Line, Lines, Packed, Places};
 use std::process::Abort;
 use std::test::Fail;
 use terms::fault::{Cause, Fault};
 
 pub(crate) fn line(premises: &[u8], divisor: u32) -> Line<'_> {
     Line {
-        premises: Premises { bytes: premises },
+        premises: Packed::new(premises),
         divisor,
     }
 }
@@ -18,7 +18,7 @@ pub(crate) fn lines(count: usize, bytes: &[u8]) -> Lines<'_> {
 }
 
 pub(crate) fn places(bytes: &[u8]) -> Places<'_> {
-    Places { bytes }
+    Packed::new(bytes)
 }
 
 // A step answers with this fault.

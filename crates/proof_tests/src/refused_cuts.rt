@@ -2,6 +2,7 @@
 use crate::outcome::{line, lines, refused};
 use derivation::job::Job;
 use derivation::proof::Proof;
+use law::premise::{Line, Packed};
 use std::test::Fail;
 use terms::fault::Cause;
 use theories::bare::Bare;
@@ -57,20 +58,15 @@ fn cuts(rt: HostRuntime) -> Result<(), Fail> {
     Ok(())
 }
 
-// The third row, by 32 premises.
-fn thirty_two_times() -> [u8; 128] {
-    let mut premises = [0; 128];
-    for i in 0..32usize {
-        premises[4 * i] = 2;
-        premises[4 * i + 2] = 1;
-    }
-    premises
-}
-
 // Adds a 32nd of -32x <= 0.
 fn cut_by_thirty_two(proof: &mut Proof<Bare>) -> Result<(), Fail> {
-    let premises = thirty_two_times();
-    proof.cut(&line(&premises, 32))?;
+    let premises = Packed {
+        items: &[[2, 0, 1, 0]; 32],
+    };
+    proof.cut(&Line {
+        premises,
+        divisor: 32,
+    })?;
     Ok(())
 }
 

@@ -14,12 +14,12 @@ use theories::bare::Bare;
 fn steps() -> [Step<'static>; 12] {
     [
         Step::Cutoff,
-        Step::Take(Numbers::of(&[2, 1])),
+        Step::Take(Numbers::from([2, 1].as_slice())),
         Step::Cutoff,
-        Step::Take(Numbers::of(&[2, 1])),
+        Step::Take(Numbers::from([2, 1].as_slice())),
         Step::Cut(line(&[0, 0, 1, 0], 2)),
         Step::Infer(&[], places(&[])),
-        Step::Branch(Numbers::of(&[1, 0]), 1),
+        Step::Branch(Numbers::from([1, 0].as_slice()), 1),
         Step::Chain(lines(2, TWO_VARIABLES)),
         Step::Drop(8),
         Step::Drop(7),

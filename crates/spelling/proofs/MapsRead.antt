@@ -2,6 +2,7 @@
 use Rattle.std.proofs.Common.{◌≡◌, ℕ, zero, suc, ◌+◌, ◌-◌, ◌*◌, ◌/◌, ◌%◌, ◌^◌, ◌<◌, Bool, true, false, cond, not, ◌&&◌, ◌||◌, ltb, List, [], ◌∷◌, ◌++◌, length, take, drop, ℤ, pos, None, Ok, Err, Result, sym, refl, ap, ◌∙◌, subst, ap₂, arith, w32, to_z, of_z}
 use Rattle.std.proofs.lemmas.List.{append_assoc, take_all}
 use Rattle.std.proofs.lemmas.Int.{of_z-to_z}
+use Rattle.std.proofs.lemmas.Result.{IfOk-weaker}
 use Rattle.std.proofs.lemmas.Bool.{and_parts, eqb-false, eqb-true, ltb-true, true≢false}
 use Rattle.terms.proofs.Integers.{eq_z_same}
 use Rattle.terms.proofs.Passed.{clash}
@@ -14,7 +15,7 @@ use Rattle.fields.specs.Maps.{in_front, map_fault, map_tests, number_then, numbe
 use Rattle.spelling.specs.OneSpelling.{AreBytes}
 use Rattle.spelling.specs.StepsWritten.{bytes32, map_of, number_bytes, numbers_bytes}
 use Rattle.spelling.proofs.NumbersSpelt.{back32}
-use Rattle.spelling.proofs.PartsRead.{Holds, bytes_after, holds_here, holds_more}
+use Rattle.spelling.proofs.PartsRead.{Holds, bytes_after, holds_here}
 
 -- ---- one bit
 abbrev bit_bytes : Bool → ℤ → List ℕ
@@ -90,7 +91,7 @@ module _ (n : ℕ) where
   spread-spelt (suc k) spot i j m bs l e h =
       let twice : 2 ^ suc k ≡ 2 * 2 ^ k = omega arith in
       holds_number_then (OneSpelt (odd m) bs) (Spread (suc k) spot i j m bs) (spread k (m / 2)) (one_read (odd m) bs) (one_spelt (odd m) bs h) (λ p o.
-      holds_more (Spread k (spot + 1) (i + 1) (j - 1) (m / 2) p.1) (λ q. Spread (suc k) spot i j m bs (p.0 ∷ q.0, q.1)) (spread k (m / 2) p.1) (λ q g. (
+      IfOk-weaker (spread k (m / 2) p.1) (Spread k (spot + 1) (i + 1) (j - 1) (m / 2) p.1) (λ q. Spread (suc k) spot i j m bs (p.0 ∷ q.0, q.1)) (λ q g. (
         g.0,
         ap suc g.1,
         λ t.

@@ -1,5 +1,5 @@
 -- What a reading answers: of bytes that begin with what it reads, and of any bytes.
-use Rattle.std.proofs.Common.{◌≡◌, ℕ, zero, suc, ◌+◌, ◌<◌, ◌≤◌, Bool, true, false, cond, ltb, List, [], ◌∷◌, ◌++◌, length, take, drop, Some, None, Ok, Err, Option, Result, sym, refl, ap, ◌∙◌, subst, ap₂, arith, length-append}
+use Rattle.std.proofs.Common.{◌≡◌, ℕ, zero, suc, ◌+◌, ◌<◌, ◌≤◌, Bool, true, false, cond, ltb, List, IfOk, [], ◌∷◌, ◌++◌, length, take, drop, Some, None, Ok, Err, Option, Result, sym, refl, ap, ◌∙◌, subst, ap₂, arith, length-append}
 use Rattle.std.proofs.lemmas.List.{drop_at, get_or-drop, take_at}
 use Rattle.std.proofs.lemmas.Bool.{cond-false, le-ltb, ltb-false}
 use Rattle.terms.specs.declared.fault.Fault.{Fault}
@@ -25,11 +25,7 @@ module _ (k : ℕ) (front rest : List ℕ) (l : length front ≡ k) where
 
 -- ---- what holds of the value where there is one
 abbrev pub Holds : {X : Type 0} → (X → Type 0) → Result X Fault → Type 0
-Holds P (Ok x) = P x
-Holds P (Err f) = Unit {0}
-
-pub holds_at : {X : Type 0} (P : X → Type 0) (r : Result X Fault) (x : X) → Holds P r → r ≡ Ok x → P x
-holds_at P r x h e = subst (Holds P) e h
+Holds P r = IfOk r P
 
 pub holds_then : {X Y : Type 0} (P : X → Type 0) (Q : Y → Type 0) (r : Result X Fault) (next : X → Result Y Fault) → Holds P r → ((x : X) → P x → Holds Q (next x)) → Holds Q (and_then r next)
 holds_then P Q (Ok x) next h g = g x h
@@ -42,10 +38,6 @@ holds_otherwise P (Some f) x h = tt
 pub holds_either : {X : Type 0} (P : X → Type 0) (b : Bool) (r s : Result X Fault) → (b ≡ true → Holds P r) → (b ≡ false → Holds P s) → Holds P (cond b r s)
 holds_either P true r s h g = h refl
 holds_either P false r s h g = g refl
-
-pub holds_more : {X : Type 0} (P Q : X → Type 0) (r : Result X Fault) → ((x : X) → P x → Q x) → Holds P r → Holds Q r
-holds_more P Q (Ok x) g h = g x h
-holds_more P Q (Err f) g h = tt
 
 pub holds_both : {X : Type 0} (P Q : X → Type 0) (r : Result X Fault) → Holds P r → Holds Q r → Holds (λ x. P x × Q x) r
 holds_both P Q (Ok x) h g = (h, g)

@@ -2,6 +2,7 @@
 use Rattle.std.proofs.Common.{◌≡◌, ℕ, ◌*◌, ◌<◌, ◌≤◌, min, true, cond, eqb, List, ◌∷◌, ◌++◌, length, get_or, take as firsts, drop as after, ℤ, Some, None, Ok, Err, Option, sym, refl, ap, ◌∙◌, subst, ap₂, arith, w64, to_z, of_z}
 use Rattle.std.proofs.lemmas.List.{append_assoc, drop_more, length-take-le, take-append-drop}
 use Rattle.std.proofs.lemmas.Int.{of_z-to_z}
+use Rattle.std.proofs.lemmas.Result.{IfOk-at_ok}
 use Rattle.std.proofs.lemmas.Bool.{and_from, eq-eqb, eqb-true, le-leb, lt-ltb}
 use Rattle.terms.specs.Bytes.{nat16, nat64}
 use Rattle.law.proofs.PremisesRead.{lines_long}
@@ -18,7 +19,7 @@ use Rattle.spelling.specs.StepsWritten.{bytes16, bytes64, counted, lines_counted
 use Rattle.spelling.proofs.ListsSpelt.{LineSpelt, LinesSpelt, line-spelt, lines_spelt, places_spelt}
 use Rattle.spelling.proofs.MapsRead.{NumbersRight, Told, numbers_right}
 use Rattle.spelling.proofs.NumbersSpelt.{back16, back64}
-use Rattle.spelling.proofs.PartsRead.{Holds, bytes_after, bytes_before, holds_after, holds_at, holds_either, holds_otherwise, holds_then}
+use Rattle.spelling.proofs.PartsRead.{Holds, bytes_after, bytes_before, holds_after, holds_either, holds_otherwise, holds_then}
 
 -- what is read at these bytes is spelt so, and suits
 abbrev StepSpelt : ℕ → ℕ → List ℕ → Option Call × List ℕ → Type 0
@@ -141,4 +142,4 @@ step-spelt n w bs l h = holds_after 1 bs (get_or bs 0 0, after 1 bs) (StepSpelt 
     (subst (λ cs. Holds (StepSpelt n w cs) (step_fields n w (get_or bs 0 0) (after 1 bs))) whole (fields_spelt n w (after 1 bs) (bytes_after 1 bs h) (get_or bs 0 0) l)))
 
 pub one_spelling : OneSpelling
-one_spelling n w bytes o rest l h e = holds_at (StepSpelt n w bytes) (step_read n w bytes) (o, rest) (step-spelt n w bytes l h) e
+one_spelling n w bytes o rest l h e = IfOk-at_ok (StepSpelt n w bytes) e (step-spelt n w bytes l h)

@@ -1,6 +1,7 @@
 -- Reading undoes writing, and each step has one spelling.
-use Rattle.std.specs.Prelude.{◌≡◌, ℕ, ◌<◌, ◌≤◌, true, List, [], ◌∷◌, ◌++◌, ℤ, Some, None, Ok, Option, FitsSigned, slice_index}
+use Rattle.std.specs.Prelude.{◌≡◌, ℕ, ◌<◌, ◌≤◌, true, List, ◌++◌, ℤ, Some, None, Ok, Option, FitsSigned, slice_index}
 use Rattle.std.specs.Int.{w32, w64}
+use Rattle.std.specs.List.{AllByRecursion}
 use Rattle.law.specs.declared.premise.Premise.{Premise}
 use Rattle.law.specs.Calls.{Call, Line}
 use Rattle.law.specs.Calls.Call.{branch, cut, chain, infer, cutoff, take, drop, pin}
@@ -9,23 +10,22 @@ use Rattle.spelling.specs.StepsWritten.{spelling, suits}
 
 -- ---- numbers that fit their fields, as those of every step in memory do
 abbrev pub AllPlaces : List ℕ → Type 0
-AllPlaces [] = Unit {0}
-AllPlaces (p ∷ ps) = (p < 65536) × AllPlaces ps
+AllPlaces ps = AllByRecursion (λ p. p < 65536) ps
+
+abbrev pub PremiseFits : Premise → Type 0
+PremiseFits p = (p.place < 65536) × (p.multiplier < 65536)
 
 abbrev pub AllPremises : List Premise → Type 0
-AllPremises [] = Unit {0}
-AllPremises (p ∷ ps) = (p.place < 65536) × (p.multiplier < 65536) × AllPremises ps
+AllPremises ps = AllByRecursion PremiseFits ps
 
 abbrev pub LineFits : Line → Type 0
 LineFits l = AllPremises l.premises × (l.divisor < 4294967296)
 
 abbrev pub AllLines : List Line → Type 0
-AllLines [] = Unit {0}
-AllLines (l ∷ ls) = LineFits l × AllLines ls
+AllLines ls = AllByRecursion LineFits ls
 
 abbrev pub AllNumbers : List ℤ → Type 0
-AllNumbers [] = Unit {0}
-AllNumbers (v ∷ vs) = FitsSigned w32 v × AllNumbers vs
+AllNumbers vs = AllByRecursion (λ v. FitsSigned w32 v) vs
 
 abbrev pub FitsFields : Option Call → Type 0
 FitsFields (Some (branch r)) = AllNumbers r.coefficients × FitsSigned w64 r.right

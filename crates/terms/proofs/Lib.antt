@@ -1,7 +1,8 @@
 pub mod ByPlace
-pub mod FirstFault
 pub mod Integers
 pub mod Passed
 pub mod Places
 pub mod SmallLists
 pub mod Sums
+pub mod FirstFault
+pub mod Made

@@ -1,23 +1,17 @@
 -- Sums of coefficient times value.
-use Rattle.std.proofs.Common.{◌≡◌, ℕ, zero, suc, ◌+◌, ◌*◌, ◌<◌, ◌≤◌, min, List, [], ◌∷◌, length, get_or, take, drop, ℤ, pos, ◌+ℤ◌, ◌-ℤ◌, ◌*ℤ◌, nat_abs, refl, ap, ◌∙◌, ap₂, ⊎_elim, arith, w32, w64, SFits, to_z, of_z}
+use Rattle.std.proofs.Common.{◌⊎◌, ◌≡◌, ℕ, zero, suc, ◌+◌, ◌*◌, ◌≤◌, List, [], ◌∷◌, length, take, ℤ, pos, ◌+ℤ◌, ◌-ℤ◌, ◌*ℤ◌, nat_abs, refl, ap, ⊎_elim, arith, w32, w64, SFits, to_z, of_z}
 use Rattle.std.proofs.lemmas.Int.{ints, to_z-of_z}
-use Rattle.std.proofs.lemmas.List.{drop_more, drop_all}
-use Rattle.std.proofs.lemmas.Bool.{cases_lt}
 use Rattle.terms.specs.Rows.{Plan, dot}
-
-pub dot_more : (cs xs : List ℤ) (i : ℕ) → i < length cs → i < length xs → dot (drop i cs) (drop i xs) ≡ get_or cs i (pos 0) *ℤ get_or xs i (pos 0) +ℤ dot (drop (i + 1) cs) (drop (i + 1) xs)
-dot_more cs xs i h g = ap₂ dot (drop_more cs i (pos 0) h) (drop_more xs i (pos 0) g)
 
 dot_none : (cs : List ℤ) → dot cs [] ≡ pos 0
 dot_none [] = refl
 dot_none (c ∷ cs) = refl
 
 -- nothing is left once either list is
-pub dot_past : (cs xs : List ℤ) (i : ℕ) → min (length xs) (length cs) ≤ i → dot (drop i cs) (drop i xs) ≡ pos 0
-dot_past cs xs i h = ⊎_elim
-    (λ (g : i < length xs). ap (λ ys. dot ys (drop i xs)) (drop_all i cs (omega arith)))
-    (λ (g : length xs ≤ i). ap (dot (drop i cs)) (drop_all i xs g) ∙ dot_none (drop i cs))
-    (cases_lt i (length xs))
+pub dot_over : (cs xs : List ℤ) → (length cs ≡ 0) ⊎ (length xs ≡ 0) → dot cs xs ≡ pos 0
+dot_over [] xs h = refl
+dot_over (c ∷ cs) [] h = refl
+dot_over (c ∷ cs) (x ∷ xs) h = absurd (⊎_elim (λ (e : length (c ∷ cs) ≡ 0). omega arith) (λ (e : length (x ∷ xs) ≡ 0). omega arith) h)
 
 -- places past a plan's end do not count
 pub dot_front : (n : ℕ) (cs : List ℤ) (xs : Plan) → length xs ≤ n → dot (take n cs) xs ≡ dot cs xs
@@ -36,9 +30,9 @@ both_read a b f g = simp to_z-of_z
 
 -- one term more of a sum at 64 bits: over plain variables, since `omega` has a bound on what it reads in an answer;
 -- the equation e shows antt what s is
-module _ {s : ℤ} (total d rest p : ℤ) (i : ℕ) (e : s ≡ (total -ℤ d)) (small : nat_abs s ≤ i * 2147483648000000) (few : i < 16) (fits : SFits w64 p) (bound : nat_abs p ≤ 2147483648000000) where
+module _ {s : ℤ} (total d rest p : ℤ) (n : ℕ) (e : s ≡ (total -ℤ d)) (small : nat_abs s + (n + 1) * 2147483648000000 ≤ 34359738368000000) (fits : SFits w64 p) (bound : nat_abs p ≤ 2147483648000000) where
   pub next_is : d ≡ p +ℤ rest → to_z w64 (of_z w64 (s +ℤ to_z w64 (of_z w64 p))) ≡ (total -ℤ rest)
   next_is f = omega (arith, ints)
 
-  pub next_small : nat_abs (to_z w64 (of_z w64 (s +ℤ to_z w64 (of_z w64 p)))) ≤ (i + 1) * 2147483648000000
+  pub next_small : nat_abs (to_z w64 (of_z w64 (s +ℤ to_z w64 (of_z w64 p)))) + n * 2147483648000000 ≤ 34359738368000000
   next_small = omega (arith, ints)

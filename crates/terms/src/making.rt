@@ -9,6 +9,7 @@ use crate::checks::{all_small, is_right, need};
 use crate::difference::Difference;
 use crate::fault::{Cause, Fault};
 use crate::row::{Coefficients, Row};
+use std::array;
 
 impl Coefficients {
     // Sixteen zeros.
@@ -33,11 +34,25 @@ impl Coefficients {
     pub fn negated(&self) -> Coefficients
         ensures { result.items ≡ negated self.now.items }
     {
-        let mut items = self.items;
-        for i in 0..16usize {
-            items[i] = -self.items[i];
+        Coefficients {
+            items: array::from_fn(|place| -self.items[place]),
         }
-        Coefficients { items }
+    }
+}
+
+impl Default for Coefficients {
+    ghost is_default = { λ c. c.items ≡ replicate 16 (pos 0) };
+
+    fn default() -> Coefficients {
+        Coefficients::zeros()
+    }
+}
+
+impl Default for Row {
+    ghost is_default = { λ r. whole r ≡ record { coefficients = replicate 16 (pos 0); right = pos 0 } };
+
+    fn default() -> Row {
+        Row::zeros()
     }
 }
 
@@ -118,10 +133,7 @@ impl Difference {
             return None;
         }
         let size = n.min(16);
-        let mut items = [0; 16];
-        for i in 0..16usize {
-            items[i] = self.coefficient(size, i);
-        }
+        let items = array::from_fn(|place| self.coefficient(size, place));
         Some(Row {
             coefficients: Coefficients { items },
             right: self.most,

@@ -18,8 +18,7 @@ fn term(coefficient: i32, value: i32) -> i64
 pub fn value_at(plan: &[i32], place: u8) -> i32
     ensures { result ≡ reads plan.now place }
 {
-    let place = place as usize;
-    if place < plan.len() { plan[place] } else { 0 }
+    plan.get(place as usize).copied().unwrap_or(0)
 }
 
 impl Coefficients {
@@ -27,10 +26,9 @@ impl Coefficients {
     pub fn dot(&self, plan: &[i32]) -> i64
         ensures { result ≡ dot self.now.items plan.now }
     {
-        let places = plan.len().min(16);
         let mut sum: i64 = 0;
-        for i in 0..places {
-            sum += term(self.items[i], plan[i]);
+        for (coefficient, value) in self.items.iter().zip(plan) {
+            sum += term(*coefficient, *value);
         }
         sum
     }

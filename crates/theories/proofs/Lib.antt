@@ -1,2 +1,2 @@
-pub mod EveryPair
-pub mod Picked
+pub mod Added
+pub mod Told

@@ -1,14 +1,14 @@
 -- One vat: batches that never overlap.
-use Rattle.std.specs.Prelude.{ℕ, Bool, not, ◌&&◌, ◌||◌, List, [], ◌∷◌, ◌++◌, length, pos, ◌+ℤ◌, ◌-ℤ◌, neg_ℤ, Option, Result, ◌==◌, int_le, nat_le, nat_lt}
-use Rattle.terms.specs.declared.fault.Cause.TheVariants.{Full, OutOfRange}
+use Rattle.std.specs.Prelude.{ℕ, Bool, not, ◌&&◌, ◌||◌, List, [], ◌∷◌, pos, ◌+ℤ◌, ◌-ℤ◌, neg_ℤ, Option, Result, ◌==◌, int_le, nat_le}
+use Rattle.terms.specs.declared.fault.Cause.TheVariants.{OutOfRange}
 use Rattle.terms.specs.declared.fault.Fault.{Fault}
-use Rattle.terms.specs.Faults.{changed, first_fault, unless}
+use Rattle.terms.specs.Faults.{unless}
 use Rattle.terms.specs.Limits.{million}
 use Rattle.terms.specs.Rows.{Plan, reads}
 use Rattle.theories.specs.declared.parts.Batch.{Batch}
 use Rattle.theories.specs.declared.parts.Pair.{Pair}
-use Rattle.theories.specs.Meaning.{Meaning, Rule, difference, picked, rule_between}
-use Rattle.theories.specs.Pairs.{every_pair}
+use Rattle.theories.specs.Meaning.{Meaning, Rule, difference}
+use Rattle.theories.specs.Pairwise.{Kind, pairwise, part_added, part_checks, parts_named, parts_picked}
 
 -- a batch ends no later than another starts
 abbrev pub before : Plan → Batch → Batch → Bool
@@ -27,26 +27,36 @@ vat_between a b = record {
   conclusion = difference b.start a.start (neg_ℤ (pos b.duration));
 }
 
+-- ---- the kind of part
+abbrev pub batch_limits : Batch → List (Option Fault)
+batch_limits b =
+    unless (nat_le b.start 15) OutOfRange 0
+    ∷ unless (nat_le 1 b.duration && nat_le b.duration million) OutOfRange 1
+    ∷ []
+
+-- two batches have a rule where they are two
+abbrev pub batch_kind : Kind Batch
+batch_kind = record {
+  suited = apart;
+  ruled = λ p a b. not (p.one == p.other);
+  between = vat_between;
+  limits = batch_limits;
+  blank = no_batch;
+}
+
 -- the two batches of a clue both exist and differ
 abbrev pub vat_named : List Batch → Pair → Bool
-vat_named bs p = nat_lt p.one (length bs) && (nat_lt p.other (length bs) && not (p.one == p.other))
+vat_named = parts_named batch_kind
 
 abbrev pub vat_picked : List Batch → Pair → Option (Batch × Batch)
-vat_picked bs p = picked (vat_named bs p) bs p.one p.other no_batch
+vat_picked = parts_picked batch_kind
 
 abbrev pub one_vat : List Batch → Meaning Pair
-one_vat bs = record {
-  admits = λ x. every_pair (apart x) bs;
-  rule = λ p. rule_between vat_between (vat_picked bs p);
-}
+one_vat = pairwise batch_kind
 
 -- ---- adding a batch to n of them
 abbrev pub batch_checks : ℕ → Batch → List (Option Fault)
-batch_checks n b =
-    unless (nat_le b.start 15) OutOfRange 0
-    ∷ unless (nat_le 1 b.duration && nat_le b.duration million) OutOfRange 1
-    ∷ unless (nat_lt n 16) Full 0
-    ∷ []
+batch_checks = part_checks batch_kind
 
 abbrev pub batch_added : List Batch → Batch → List Batch × Result (Unit {0}) Fault
-batch_added bs b = changed (first_fault (batch_checks (length bs) b)) bs (bs ++ b ∷ [])
+batch_added = part_added batch_kind

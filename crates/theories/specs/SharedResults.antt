@@ -1,14 +1,14 @@
 -- Shared results: one function with equal arguments has one result.
-use Rattle.std.specs.Prelude.{ℕ, Bool, not, ◌&&◌, ◌||◌, List, [], ◌∷◌, ◌++◌, length, pos, Option, Result, ◌==◌, nat_le, nat_lt, slice_index_or}
-use Rattle.terms.specs.declared.fault.Cause.TheVariants.{Full, OutOfRange}
+use Rattle.std.specs.Prelude.{ℕ, Bool, not, ◌&&◌, ◌||◌, List, [], ◌∷◌, pos, Option, Result, ◌==◌, nat_le}
+use Rattle.terms.specs.declared.fault.Cause.TheVariants.{OutOfRange}
 use Rattle.terms.specs.declared.fault.Fault.{Fault}
-use Rattle.terms.specs.Faults.{changed, first_fault, unless}
+use Rattle.terms.specs.Faults.{unless}
 use Rattle.terms.specs.Integers.{eq_z}
 use Rattle.terms.specs.Rows.{Plan, reads}
 use Rattle.theories.specs.declared.parts.Call.{Call}
 use Rattle.theories.specs.declared.parts.Pair.{Pair}
-use Rattle.theories.specs.Meaning.{Meaning, Rule, difference, picked, rule_between}
-use Rattle.theories.specs.Pairs.{every_pair}
+use Rattle.theories.specs.Meaning.{Meaning, Rule, difference}
+use Rattle.theories.specs.Pairwise.{Kind, pairwise, part_added, part_checks, parts_named, parts_picked}
 
 -- two calls of one function with equal arguments
 abbrev pub alike : Plan → Call → Call → Bool
@@ -33,27 +33,37 @@ shared_between c d = record {
   conclusion = difference c.result d.result (pos 0);
 }
 
--- the two calls of a clue both exist, with one function
-abbrev pub shared_named : List Call → Pair → Bool
-shared_named cs p = nat_lt p.one (length cs) && (nat_lt p.other (length cs) && (slice_index_or cs p.one no_call).function == (slice_index_or cs p.other no_call).function)
-
-abbrev pub shared_picked : List Call → Pair → Option (Call × Call)
-shared_picked cs p = picked (shared_named cs p) cs p.one p.other no_call
-
-abbrev pub shared_results : List Call → Meaning Pair
-shared_results cs = record {
-  admits = λ x. every_pair (agree x) cs;
-  rule = λ p. rule_between shared_between (shared_picked cs p);
-}
-
--- ---- adding a call to n of them
-abbrev pub call_checks : ℕ → Call → List (Option Fault)
-call_checks n c =
+-- ---- the kind of part
+abbrev pub call_limits : Call → List (Option Fault)
+call_limits c =
     unless (nat_le c.first 15) OutOfRange 1
     ∷ unless (nat_le c.second 16) OutOfRange 2
     ∷ unless (nat_le c.result 15) OutOfRange 3
-    ∷ unless (nat_lt n 16) Full 0
     ∷ []
 
+-- two calls have a rule where they have one function
+abbrev pub call_kind : Kind Call
+call_kind = record {
+  suited = agree;
+  ruled = λ p c d. c.function == d.function;
+  between = shared_between;
+  limits = call_limits;
+  blank = no_call;
+}
+
+-- the two calls of a clue both exist, with one function
+abbrev pub shared_named : List Call → Pair → Bool
+shared_named = parts_named call_kind
+
+abbrev pub shared_picked : List Call → Pair → Option (Call × Call)
+shared_picked = parts_picked call_kind
+
+abbrev pub shared_results : List Call → Meaning Pair
+shared_results = pairwise call_kind
+
+-- ---- adding a call to n of them
+abbrev pub call_checks : ℕ → Call → List (Option Fault)
+call_checks = part_checks call_kind
+
 abbrev pub call_added : List Call → Call → List Call × Result (Unit {0}) Fault
-call_added cs c = changed (first_fault (call_checks (length cs) c)) cs (cs ++ c ∷ [])
+call_added = part_added call_kind

@@ -1,6 +1,6 @@
 // The bare theory: it admits every plan and has no rule.
 ghost use Rattle.theories.specs.Bare.{bare, no_bytes};
-ghost use Rattle.std.proofs.Common.{rules};
+ghost use Rattle.theories.specs.Laws.{no_bytes_sized};
 
 use crate::theory::{Theory, no_rule};
 use terms::difference::Difference;
@@ -18,9 +18,9 @@ impl Theory for Bare {
 
     ghost reads = { no_bytes };
 
-    ghost lawful = { Prim.search rules };
+    ghost lawful = { λ _ _. tt };
 
-    ghost sized = { Prim.search rules };
+    ghost sized = { no_bytes_sized };
 
     fn clue_length() -> usize {
         0

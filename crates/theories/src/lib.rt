@@ -4,6 +4,7 @@
 pub mod bare;
 pub mod one_vat;
 pub mod pairs;
+pub mod pairwise;
 pub mod parts;
 pub mod shared_results;
 pub mod theory;

@@ -54,22 +54,15 @@ pub fn law_on_bytes<T: Theory>(theory: &T)
 pub fn no_rule() -> Fault
     ensures { result ≡ no_rule }
 {
-    Fault {
-        cause: Cause::NoRule,
-        spot: 0,
-        line: 0,
-    }
+    Cause::NoRule.into()
 }
 
-// A clue of two bytes.
+// A clue of two bytes: a slice pattern says it more plainly than a conversion of a slice to an array and of that to a clue.
 pub fn two_bytes(bytes: &[u8]) -> Result<Pair, Fault>
     ensures { result ≡ clued (two_bytes bytes.now) }
 {
     match bytes {
-        [one, other] => Ok(Pair {
-            one: *one,
-            other: *other,
-        }),
+        [one, other] => Ok(Pair::from([*one, *other])),
         _ => Err(no_rule()),
     }
 }

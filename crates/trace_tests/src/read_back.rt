@@ -35,12 +35,17 @@ fn numbers_come_back(rt: HostRuntime) -> Result<(), Fail> {
         ),
     ];
     for (numbers, right) in cases {
-        let numbers = Numbers::of(numbers);
+        let numbers = Numbers::from(numbers);
         let n = numbers.values().len();
         comes_back(&rt, n, 0, Some(Step::Branch(numbers, right)))?;
         comes_back(&rt, n, 2, Some(Step::Take(numbers)))?;
     }
-    comes_back(&rt, 16, 2, Some(Step::Take(Numbers::of(&[-1; 16]))))
+    comes_back(
+        &rt,
+        16,
+        2,
+        Some(Step::Take(Numbers::from([-1; 16].as_slice()))),
+    )
 }
 
 #[test]

@@ -1,7 +1,7 @@
 // Records of each kind, read as steps.
 use crate::steps::same_step;
 use law::numbers::Numbers;
-use law::premise::{Places, Premises};
+use law::premise::{Places, Premise, Premises};
 use law::step::Step;
 use spelling::step_reader::read_step;
 use std::process::Abort;
@@ -61,7 +61,7 @@ fn branches(rt: HostRuntime) -> Result<(), Fail> {
         ),
     ];
     for (bytes, numbers, right, left) in cases {
-        let step = Step::Branch(Numbers::of(numbers), right);
+        let step = Step::Branch(Numbers::from(numbers), right);
         reads(&rt, numbers.len(), 0, bytes, Some(step), left)?;
     }
     Ok(())
@@ -92,7 +92,7 @@ fn takes(rt: HostRuntime) -> Result<(), Fail> {
         ),
     ];
     for (bytes, numbers, left) in cases {
-        let step = Step::Take(Numbers::of(numbers));
+        let step = Step::Take(Numbers::from(numbers));
         reads(&rt, numbers.len(), 2, bytes, Some(step), left)?;
     }
     Ok(())
@@ -100,9 +100,9 @@ fn takes(rt: HostRuntime) -> Result<(), Fail> {
 
 fn premises_are(rt: &impl Abort, found: Premises<'_>, expected: &[(u16, u16)]) {
     assert_eq!(rt; found.len(), expected.len());
-    for i in 0..expected.len() {
-        let premise = found.get(i);
-        assert_eq!(rt; (premise.place, premise.multiplier), expected[i]);
+    for (item, expected) in found.items.iter().zip(expected) {
+        let premise = Premise::from(*item);
+        assert_eq!(rt; (premise.place, premise.multiplier), *expected);
     }
 }
 
@@ -177,8 +177,8 @@ fn a_chain_without_lines(rt: HostRuntime) -> Result<(), Fail> {
 
 fn places_are(rt: &impl Abort, found: Places<'_>, expected: &[u16]) {
     assert_eq!(rt; found.len(), expected.len());
-    for i in 0..expected.len() {
-        assert_eq!(rt; found.get(i), expected[i]);
+    for (item, expected) in found.items.iter().zip(expected) {
+        assert_eq!(rt; u16::from_le_bytes(*item), *expected);
     }
 }
 

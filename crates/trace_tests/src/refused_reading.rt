@@ -108,7 +108,12 @@ fn the_longest_infer(rt: HostRuntime) -> Result<(), Fail> {
     match read_step(2, 2, &bytes) {
         Ok((Some(Step::Infer(clue, places)), rest)) => {
             assert_eq!(rt; (clue, rest), ([9, 9].as_slice(), [9].as_slice()));
-            assert_eq!(rt; (places.len(), places.get(254)), (255, 0x0909));
+            let last = places
+                .items
+                .get(254)
+                .copied()
+                .map(|item| u16::from_le_bytes(item));
+            assert_eq!(rt; (places.len(), last), (255, Some(0x0909)));
             Ok(())
         }
         _ => Err(Fail::new("no infer")),

@@ -28,12 +28,12 @@ fn wrong_length(
 #[test]
 fn seventeen_variables(rt: HostRuntime) -> Result<(), Fail> {
     let cases: [Option<Step<'static>>; 9] = [
-        Some(Step::Branch(Numbers::of(&[1; 16]), 0)),
+        Some(Step::Branch(Numbers::from([1; 16].as_slice()), 0)),
         Some(Step::Cut(line(&[0, 0, 1, 0], 1))),
         Some(Step::Chain(lines(0, &[]))),
         Some(Step::Infer(&[0, 1], places(&[]))),
         Some(Step::Cutoff),
-        Some(Step::Take(Numbers::of(&[1; 16]))),
+        Some(Step::Take(Numbers::from([1; 16].as_slice()))),
         Some(Step::Drop(0)),
         Some(Step::Pin(places(&[0; 68]))),
         None,
@@ -55,8 +55,8 @@ fn lists_of_numbers(rt: HostRuntime) -> Result<(), Fail> {
         (15, &[1, 2, 3, 4, 5, 6, 7, 8, 9, 10, 11, 12, 13, 14, 15, 16]),
     ];
     for (n, numbers) in cases {
-        wrong_length(&rt, n, 2, Some(Step::Branch(Numbers::of(numbers), 0)))?;
-        wrong_length(&rt, n, 2, Some(Step::Take(Numbers::of(numbers))))?;
+        wrong_length(&rt, n, 2, Some(Step::Branch(Numbers::from(numbers), 0)))?;
+        wrong_length(&rt, n, 2, Some(Step::Take(Numbers::from(numbers))))?;
     }
     Ok(())
 }
@@ -145,12 +145,12 @@ fn two_hundred_fifty_five(rt: HostRuntime) -> Result<(), Fail> {
 #[test]
 fn no_buffer(rt: HostRuntime) -> Result<(), Fail> {
     let cases: [Option<Step<'static>>; 9] = [
-        Some(Step::Branch(Numbers::of(&[1, 0]), 0)),
+        Some(Step::Branch(Numbers::from([1, 0].as_slice()), 0)),
         Some(Step::Cut(line(&[0, 0, 1, 0], 1))),
         Some(Step::Chain(lines(0, &[]))),
         Some(Step::Infer(&[0, 1], places(&[]))),
         Some(Step::Cutoff),
-        Some(Step::Take(Numbers::of(&[0, 0]))),
+        Some(Step::Take(Numbers::from([0, 0].as_slice()))),
         Some(Step::Drop(0)),
         Some(Step::Pin(places(&[0; 8]))),
         None,

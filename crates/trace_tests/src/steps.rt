@@ -1,5 +1,5 @@
 // Steps as the tests give and compare them. A premise is a place and a multiplier of two bytes each, low bytes first.
-use law::premise::{Line, Lines, Places, Premises};
+use law::premise::{Line, Lines, Packed, Places};
 use law::step::Step;
 use std::process::Abort;
 use std::test::Fail;
@@ -8,7 +8,7 @@ use writing::step_writer::write_step;
 
 pub(crate) fn line(premises: &[u8], divisor: u32) -> Line<'_> {
     Line {
-        premises: Premises { bytes: premises },
+        premises: Packed::new(premises),
         divisor,
     }
 }
@@ -19,11 +19,11 @@ pub(crate) fn lines(count: usize, bytes: &[u8]) -> Lines<'_> {
 }
 
 pub(crate) fn places(bytes: &[u8]) -> Places<'_> {
-    Places { bytes }
+    Packed::new(bytes)
 }
 
 fn same_line(rt: &impl Abort, found: &Line<'_>, expected: &Line<'_>) -> Result<(), Fail> {
-    assert_eq!(rt; found.premises.bytes, expected.premises.bytes);
+    assert_eq!(rt; found.premises.items, expected.premises.items);
     assert_eq!(rt; found.divisor, expected.divisor);
     Ok(())
 }
@@ -31,12 +31,8 @@ fn same_line(rt: &impl Abort, found: &Line<'_>, expected: &Line<'_>) -> Result<(
 // Bytes after the last line do not count.
 fn same_lines(rt: &impl Abort, found: Lines<'_>, expected: Lines<'_>) -> Result<(), Fail> {
     assert_eq!(rt; found.count, expected.count);
-    let mut left = found;
-    let mut right = expected;
-    for _ in 0..expected.count {
-        same_line(rt, &left.first(), &right.first())?;
-        left = left.rest();
-        right = right.rest();
+    for (left, right) in found.zip(expected) {
+        same_line(rt, &left, &right)?;
     }
     Ok(())
 }
@@ -56,7 +52,7 @@ pub(crate) fn same_step(
         (Some(Step::Chain(left)), Some(Step::Chain(right))) => same_lines(rt, left, right),
         (Some(Step::Infer(clue, left)), Some(Step::Infer(other, right))) => {
             assert_eq!(rt; clue, other);
-            assert_eq!(rt; left.bytes, right.bytes);
+            assert_eq!(rt; left.items, right.items);
             Ok(())
         }
         (Some(Step::Cutoff), Some(Step::Cutoff)) => Ok(()),
@@ -69,7 +65,7 @@ pub(crate) fn same_step(
             Ok(())
         },
         (Some(Step::Pin(left)), Some(Step::Pin(right))) => {
-            assert_eq!(rt; left.bytes, right.bytes);
+            assert_eq!(rt; left.items, right.items);
             Ok(())
         },
         (None, None) => Ok(()),

@@ -11,15 +11,13 @@ use writing::step_writer::write_step;
 fn stands(rt: &impl Abort, out: &[u8], record: &[u8]) {
     let length = record.len().min(out.len());
     assert_eq!(rt; &out[..length], record);
-    for i in length..out.len() {
-        assert_eq!(rt; out[i], 0x5a);
-    }
+    assert!(rt; out[length..].iter().all(|byte| *byte == 0x5a));
 }
 
 // The steps of the two batches, and the end.
 fn steps() -> [Option<Step<'static>>; 8] {
     [
-        Some(Step::Take(Numbers::of(&[2, 0]))),
+        Some(Step::Take(Numbers::from([2, 0].as_slice()))),
         Some(Step::Cutoff),
         Some(Step::Cut(line(&[2, 0, 1, 0, 0, 0, 2, 0], 1))),
         Some(Step::Infer(&[0, 1], places(&[3, 0]))),
@@ -108,7 +106,7 @@ fn branches(rt: HostRuntime) -> Result<(), Fail> {
         ),
     ];
     for (numbers, right, record) in cases {
-        let step = Step::Branch(Numbers::of(numbers), right);
+        let step = Step::Branch(Numbers::from(numbers), right);
         writes(&rt, numbers.len(), 0, Some(step), record)?;
     }
     Ok(())
@@ -131,7 +129,7 @@ fn takes(rt: HostRuntime) -> Result<(), Fail> {
         ),
     ];
     for (numbers, record) in cases {
-        let step = Step::Take(Numbers::of(numbers));
+        let step = Step::Take(Numbers::from(numbers));
         writes(&rt, numbers.len(), 2, Some(step), record)?;
     }
     Ok(())

@@ -1,11 +1,17 @@
 -- Bytes laid into a buffer one after another.
-use Rattle.std.proofs.Common.{◌≡◌, ℕ, suc, ◌+◌, ◌-◌, ◌*◌, ◌<◌, ◌≤◌, List, [], ◌∷◌, ◌++◌, length, get_or, take, drop, sym, refl, ap, ◌∙◌, subst, ap₂, add-zero, mul-suc, arith, length-append, length-drop, take-append-drop, length-take, drop-drop, take_at}
+use Rattle.std.proofs.Common.{◌≡◌, ℕ, suc, ◌+◌, ◌-◌, ◌*◌, ◌<◌, ◌≤◌, List, [], ◌∷◌, ◌++◌, map, length, get_or, take, drop, sym, refl, ap, ◌∙◌, subst, ap₂, add-zero, arith, length-append, length-drop, take-append-drop, length-take, drop-drop, take_at}
 use lib.Seq.{drop-append-add}
 use borrow.Rule.Slice.PartMut.{Post-is, put_mid}
-use Rattle.std.proofs.lemmas.List.{append_assoc, append-nil, take_all, take_more}
-use Rattle.law.specs.declared.premise.Premise.{Premise}
+use Rattle.std.proofs.lemmas.List.{append_assoc, append-nil, drop_at}
 use Rattle.law.specs.Calls.{Line}
-use Rattle.writing.specs.Laid.{laid}
+use Rattle.writing.specs.declared.pen.Pen.{Pen}
+use Rattle.writing.specs.Laid.{HasRoom, Lays, laid}
+use Rattle.spelling.specs.OneSpelling.{AreBytes}
+use Rattle.terms.specs.Bytes.{nat16}
+use Rattle.law.specs.Spelt.{premise_in}
+use Rattle.spelling.proofs.ListsSpelt.{place_spelt, premise_spelt, premises_bytes_long}
+use Rattle.spelling.proofs.PartsRead.{bytes_after, bytes_before}
+use Rattle.std.specs.List.{flat_map}
 use Rattle.spelling.specs.StepsWritten.{bytes16, bytes32, in_turn, line_bytes, places_bytes, premise_bytes, premises_bytes}
 
 pub put_laid : (at : ℕ) (bytes part out : List ℕ) → part ≡ bytes → put_mid at ((at + length bytes) - at) out part ≡ laid at bytes out
@@ -16,11 +22,14 @@ put_laid at bytes part out e =
 front : (at : ℕ) (out : List ℕ) → at ≤ length out → length (take at out) ≡ at
 front at out h = omega (arith, length-take at out)
 
-pub laid_long : (at : ℕ) (p out : List ℕ) → at + length p ≤ length out → length (laid at p out) ≡ length out
+laid_long : (at : ℕ) (p out : List ℕ) → at + length p ≤ length out → length (laid at p out) ≡ length out
 laid_long at p out h =
     length-append (take at out) (p ++ drop (at + length p) out)
     ∙ ap (λ (k : ℕ). length (take at out) + k) (length-append p (drop (at + length p) out))
     ∙ omega (arith, length-take at out, length-drop (at + length p) out)
+
+laid_none : (at : ℕ) (out : List ℕ) → laid at [] out ≡ out
+laid_none at out = ap (λ (k : ℕ). take at out ++ drop k out) (add-zero at) ∙ take-append-drop at out
 
 -- ---- p and then q
 module _ (at : ℕ) (p q out : List ℕ) (h : at ≤ length out) where
@@ -46,87 +55,78 @@ module _ (at : ℕ) (p q out : List ℕ) (h : at ≤ length out) where
       ∙ drop-drop (length q) (at + length p) out
       ∙ ap (λ (k : ℕ). drop k out) (omega (arith, length-append p q))
 
-  pub laid_then : laid (at + length p) q (laid at p out) ≡ laid at (p ++ q) out
+  laid_then : laid (at + length p) q (laid at p out) ≡ laid at (p ++ q) out
   laid_then =
       ap₂ (λ (xs rest : List ℕ). xs ++ (q ++ rest)) before_q after_q
       ∙ append_assoc (take at out) p (q ++ drop (at + length (p ++ q)) out)
       ∙ ap (λ (rest : List ℕ). take at out ++ rest) (sym (append_assoc p q (drop (at + length (p ++ q)) out)))
 
--- `out` was the buffer, `now` is it with bytes laid from a place on, and `next` is the place after them
-abbrev pub Laid : ℕ → List ℕ → List ℕ → List ℕ → ℕ → Type 0
-Laid at out bytes now next = (now ≡ laid at bytes out) × (next ≡ at + length bytes)
+-- ---- pens
+pub lays_none : (p : Pen) → Lays p [] p
+lays_none p = record { out = sym (laid_none p.at p.out.now); at = sym (add-zero p.at); buffer = refl }
 
-pub and_laid : (at : ℕ) (out p now : List ℕ) (next : ℕ) (q now' : List ℕ) (next' : ℕ) → at ≤ length out → Laid at out p now next → now' ≡ laid next q now → next' ≡ next + length q → Laid at out (p ++ q) now' next'
-and_laid at out p now next q now' next' h s e f = (
-  e ∙ ap₂ (λ (k : ℕ) (ys : List ℕ). laid k q ys) s.1 s.0 ∙ laid_then at p q out h,
-  f ∙ ap (λ (k : ℕ). k + length q) s.1 ∙ omega (arith, length-append p q),
-)
+-- one after another
+pub then_room : {p q : Pen} {xs : List ℕ} (ys : List ℕ) → HasRoom p (xs ++ ys) → Lays p xs q → HasRoom q ys
+then_room {p} {q} {xs} ys room first =
+    let l = ap length first.out ∙ laid_long p.at xs p.out.now (omega (arith, length-append xs ys)) in
+    omega (arith, length-append xs ys, first.at)
 
--- from the front on
-pub laid_front : (out bytes now : List ℕ) (next : ℕ) → Laid 0 out bytes now next → (now ≡ bytes ++ drop (length bytes) out) × (next ≡ length bytes)
-laid_front out bytes now next s = let e : 0 + length bytes ≡ length bytes = omega arith in (s.0 ∙ ap (λ (k : ℕ). bytes ++ drop k out) e, s.1 ∙ e)
+pub lays_then : {p q r : Pen} {xs ys : List ℕ} → HasRoom p (xs ++ ys) → Lays p xs q → Lays q ys r → Lays p (xs ++ ys) r
+lays_then {p} {q} {r} {xs} {ys} room first second = record {
+  out = second.out ∙ ap₂ (λ (k : ℕ) (out : List ℕ). laid k ys out) first.at first.out ∙ laid_then p.at xs ys p.out.now (omega (arith, length-append xs ys));
+  at = second.at ∙ ap (λ (k : ℕ). k + length ys) first.at ∙ omega (arith, length-append xs ys);
+  buffer = second.buffer ∙ first.buffer;
+}
 
 -- ---- a list, whose bytes are laid in turn
 module _ {X : Type 0} (bytes : X → List ℕ) where
-  pub in-turn-append : (xs ys : List X) → in_turn bytes (xs ++ ys) ≡ in_turn bytes xs ++ in_turn bytes ys
+  in-turn-append : (xs ys : List X) → in_turn bytes (xs ++ ys) ≡ in_turn bytes xs ++ in_turn bytes ys
   in-turn-append [] ys = refl
   in-turn-append (x ∷ xs) ys = ap (λ (rest : List ℕ). bytes x ++ rest) (in-turn-append xs ys) ∙ sym (append_assoc (bytes x) (in_turn bytes xs) (in_turn bytes ys))
 
-  -- where each has k bytes
-  pub in-turn-long : (k : ℕ) → ((x : X) → length (bytes x) ≡ k) → (xs : List X) → length (in_turn bytes xs) ≡ k * length xs
-  in-turn-long k e [] = omega arith
-  in-turn-long k e (x ∷ xs) =
-      length-append (bytes x) (in_turn bytes xs)
-      ∙ ap₂ (λ (a b : ℕ). a + b) (e x) (in-turn-long k e xs)
-      ∙ one_more k (length xs)
-    where
-      one_more : (a b : ℕ) → a + a * b ≡ a * suc b
-      one_more a b = omega (arith, mul-suc a b)
+-- ---- a loop that lays a list: some are laid, one is next
+module _ {X : Type 0} (bytes : X → List ℕ) (done : List X) (x : X) (others : List X) where
+  in-turn-next : in_turn bytes (done ++ x ∷ others) ≡ in_turn bytes done ++ (bytes x ++ in_turn bytes others)
+  in-turn-next = in-turn-append bytes done (x ∷ others)
 
-  pub in-turn-more : (xs : List X) (i : ℕ) (d : X) → i < length xs → in_turn bytes (take (i + 1) xs) ≡ in_turn bytes (take i xs) ++ bytes (get_or xs i d)
-  in-turn-more xs i d h =
-      ap (in_turn bytes) (take_more xs i d h)
-      ∙ in-turn-append (take i xs) (get_or xs i d ∷ [])
-      ∙ ap (λ (rest : List ℕ). in_turn bytes (take i xs) ++ rest) (append-nil (bytes (get_or xs i d)))
+  in-turn-more : in_turn bytes (done ++ x ∷ []) ≡ in_turn bytes done ++ bytes x
+  in-turn-more = in-turn-append bytes done (x ∷ []) ∙ ap (λ (rest : List ℕ). in_turn bytes done ++ rest) (append-nil (bytes x))
 
--- ---- a loop that lays a list, at i of the list
-abbrev pub LaidSoFar : {X : Type 0} → (X → List ℕ) → List X → ℕ → List ℕ → ℕ → List ℕ → ℕ → Type 0
-LaidSoFar bytes xs at out i now next = Laid at out (in_turn bytes (take i xs)) now next
+  pub length-more : length (in_turn bytes (done ++ x ∷ [])) ≡ length (in_turn bytes done) + length (bytes x)
+  length-more = ap length in-turn-more ∙ length-append (in_turn bytes done) (bytes x)
 
-pub laid_none : (at : ℕ) (out : List ℕ) → laid at [] out ≡ out
-laid_none at out = ap (λ (k : ℕ). take at out ++ drop k out) (add-zero at) ∙ take-append-drop at out
+  module _ {p q : Pen} (room : HasRoom p (in_turn bytes (done ++ x ∷ others))) (so_far : Lays p (in_turn bytes done) q) where
+    pub next_room : HasRoom q (bytes x)
+    next_room =
+        let k = then_room (bytes x ++ in_turn bytes others) (subst (HasRoom p) in-turn-next room) so_far in
+        omega (arith, length-append (bytes x) (in_turn bytes others))
 
-module _ {X : Type 0} (bytes : X → List ℕ) (xs : List X) (at : ℕ) (out : List ℕ) where
-  pub so_far_none : LaidSoFar bytes xs at out 0 out at
-  so_far_none = (sym (laid_none at out), omega arith)
+    pub next_laid : {r : Pen} → Lays q (bytes x) r → Lays p (in_turn bytes (done ++ x ∷ [])) r
+    next_laid {r} one =
+        let long = ap length in-turn-next ∙ length-append (in_turn bytes done) (bytes x ++ in_turn bytes others) in
+        let enough : HasRoom p (in_turn bytes done ++ bytes x) = omega (arith, room, long, length-append (bytes x) (in_turn bytes others), length-append (in_turn bytes done) (bytes x)) in
+        subst (λ (ys : List ℕ). Lays p ys r) (sym in-turn-more) (lays_then enough so_far one)
 
-  module _ (i : ℕ) (now : List ℕ) (next : ℕ) (d : X) (s : LaidSoFar bytes xs at out i now next) (h : i < length xs) (room : at + length (in_turn bytes xs) ≤ length out) where
-    parts : length (in_turn bytes xs) ≡ (length (in_turn bytes (take i xs)) + length (bytes (get_or xs i d))) + length (in_turn bytes (drop (i + 1) xs))
-    parts =
-        ap (λ (ys : List X). length (in_turn bytes ys)) (sym (take-append-drop (i + 1) xs))
-        ∙ ap length (in-turn-append bytes (take (i + 1) xs) (drop (i + 1) xs))
-        ∙ length-append (in_turn bytes (take (i + 1) xs)) (in_turn bytes (drop (i + 1) xs))
-        ∙ ap (λ (k : ℕ). k + length (in_turn bytes (drop (i + 1) xs))) (ap length (in-turn-more bytes xs i d h) ∙ length-append (in_turn bytes (take i xs)) (bytes (get_or xs i d)))
+-- ---- a list of items as it stands in a file
+module _ {X : Type 0} (n : ℕ) (item : List ℕ → X) (bytes : X → List ℕ) (spelt : (bs : List ℕ) → length bs ≡ n → AreBytes bs → bs ≡ bytes (item bs)) where
+  items_as_bytes : (items : List (List ℕ)) → ((i : ℕ) → i < length items → length (get_or items i []) ≡ n) → AreBytes (flat_map (λ x. x) items) → flat_map (λ x. x) items ≡ in_turn bytes (map item items)
+  items_as_bytes [] long fits = refl
+  items_as_bytes (x ∷ xs) long fits =
+      let first = take_at x (flat_map (λ y. y) xs) n (long 0 (omega arith)) in
+      let others = drop_at x (flat_map (λ y. y) xs) n (long 0 (omega arith)) in
+      ap₂ ◌++◌ (spelt x (long 0 (omega arith)) (subst AreBytes first (bytes_before n (x ++ flat_map (λ y. y) xs) fits)))
+      (items_as_bytes xs (λ i h. long (suc i) (omega arith)) (subst AreBytes others (bytes_after n (x ++ flat_map (λ y. y) xs) fits)))
 
-    pub so_far_room : next + length (bytes (get_or xs i d)) ≤ length now
-    so_far_room =
-        let p = parts in
-        let l = ap length s.0 ∙ laid_long at (in_turn bytes (take i xs)) out (omega arith) in
-        let e = s.1 in omega arith
+-- what is known of places and premises as a slice
+abbrev AreItems : ℕ → List (List ℕ) → Type 0
+AreItems n items = (i : ℕ) → i < length items → length (get_or items i []) ≡ n
 
-    pub so_far_more : (now' : List ℕ) (next' : ℕ) → now' ≡ laid next (bytes (get_or xs i d)) now → next' ≡ next + length (bytes (get_or xs i d)) → LaidSoFar bytes xs at out (i + 1) now' next'
-    so_far_more now' next' e f =
-        subst (λ (ys : List ℕ). Laid at out ys now' next') (sym (in-turn-more bytes xs i d h))
-        (and_laid at out (in_turn bytes (take i xs)) now next (bytes (get_or xs i d)) now' next' (omega arith) s e f)
+pub places_as_bytes : (items : List (List ℕ)) (bs : List ℕ) → AreItems 2 items → AreBytes bs → bs ≡ flat_map (λ x. x) items → bs ≡ places_bytes (map nat16 items)
+places_as_bytes items bs long fits e = e ∙ items_as_bytes 2 nat16 bytes16 place_spelt items long (subst AreBytes e fits)
 
-  pub so_far_all : (i : ℕ) (now : List ℕ) (next : ℕ) → LaidSoFar bytes xs at out i now next → length xs ≤ i → Laid at out (in_turn bytes xs) now next
-  so_far_all i now next s h = subst (λ (ys : List X). Laid at out (in_turn bytes ys) now next) (take_all i xs h) s
+pub premises_as_bytes : (items : List (List ℕ)) (bs : List ℕ) → AreItems 4 items → AreBytes bs → bs ≡ flat_map (λ x. x) items → bs ≡ premises_bytes (map premise_in items)
+premises_as_bytes items bs long fits e = e ∙ items_as_bytes 4 premise_in premise_bytes premise_spelt items long (subst AreBytes e fits)
 
 -- ---- lengths
 pub line_long : (l : Line) → length (line_bytes l) ≡ 5 + 4 * length l.premises
-line_long l =
-    let ps = in-turn-long premise_bytes 4 (λ (p : Premise). refl) l.premises in
-    omega (arith, ps, length-append (premises_bytes l.premises) (bytes32 l.divisor))
-
-pub places_long : (ps : List ℕ) → length (places_bytes ps) ≡ 2 * length ps
-places_long ps = in-turn-long bytes16 2 (λ (p : ℕ). refl) ps
+line_long l = omega (arith, premises_bytes_long l.premises, length-append (premises_bytes l.premises) (bytes32 l.divisor))

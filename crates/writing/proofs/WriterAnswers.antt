@@ -1,12 +1,10 @@
 -- What the writer answers, by its two checks.
-use Rattle.std.proofs.Common.{◌≡◌, ℕ, ◌≤◌, Bool, true, false, ◌&&◌, T, eqb, leb, List, [], ◌∷◌, length, Ok, Err, Result, sym, refl, ap, ◌∙◌, subst, ap₂, eqb→eq, leb→le}
+use Rattle.std.proofs.Common.{◌≡◌, ℕ, ◌≤◌, Bool, true, false, ◌&&◌, T, eqb, leb, Ok, Err, Result, sym, refl, ap, ◌∙◌, subst, ap₂, eqb→eq, leb→le}
 use Rattle.terms.specs.declared.fault.Cause.{Cause}
-use Rattle.terms.specs.declared.fault.Cause.TheVariants.{BufferTooShort, WrongLength}
+use Rattle.terms.specs.declared.fault.Cause.TheVariants.{WrongLength}
 use Rattle.terms.specs.declared.fault.Fault.{Fault}
-use Rattle.terms.specs.Faults.{answered, fault, first_fault, otherwise, unless}
+use Rattle.terms.specs.Faults.{answered, fault, otherwise, unless}
 use Rattle.terms.proofs.Passed.{clash}
-use Rattle.spelling.specs.StepsWritten.{written_by, written_if}
-use Rattle.writing.proofs.LaidBytes.{Laid, laid_front}
 
 abbrev pub Passes : Bool → Cause → Type 0
 Passes b cause = Ok tt ≡ answered (unless b cause 0)
@@ -25,9 +23,6 @@ stopped_false false cause f e = (refl, ap in-error e)
     in-error : Result (Unit {0}) Fault → Fault
     in-error (Ok done) = f
     in-error (Err g) = g
-
-pub has_room : (k room : ℕ) → Passes (leb k room) BufferTooShort → k ≤ room
-has_room k room e = leb→le k room (subst T (sym (passed_true (leb k room) BufferTooShort e)) tt)
 
 pub is_counted : (k : ℕ) → Passes (leb k 255) WrongLength → k ≤ 255
 is_counted k e = leb→le k 255 (subst T (sym (passed_true (leb k 255) WrongLength e)) tt)
@@ -77,25 +72,3 @@ not_had false m f e = ap in-answer e
     in-answer : Result ℕ Fault → Result (Unit {0}) Fault
     in-answer (Ok x) = Ok tt
     in-answer (Err g) = Err g
-
-module _ (b : Bool) (bytes out : List ℕ) where
-  pub unsuitable : (f : Fault) (r : Result ℕ Fault) → Stops b WrongLength f → r ≡ Err f → (out, r) ≡ written_if b bytes out
-  unsuitable f r e is =
-      let p = stopped_false b WrongLength f e in
-      ap (λ (x : Result ℕ Fault). (out, x)) (is ∙ ap Err p.1) ∙ ap (λ (x : Bool). written_if x bytes out) (sym p.0)
-
-  abbrev by_tests : Bool → Bool → List ℕ × Result ℕ Fault
-  by_tests x y = written_by (first_fault (unless x WrongLength 0 ∷ unless y BufferTooShort 0 ∷ [])) bytes out
-
-  module _ (k : ℕ) (suitable : Passes b WrongLength) (long : k ≡ length bytes) where
-    pub no_room : (f : Fault) (r : Result ℕ Fault) → Stops (leb k (length out)) BufferTooShort f → r ≡ Err f → (out, r) ≡ written_if b bytes out
-    no_room f r e is =
-        let p = stopped_false (leb k (length out)) BufferTooShort f e in
-        ap (λ (x : Result ℕ Fault). (out, x)) (is ∙ ap Err p.1)
-        ∙ sym (ap₂ by_tests (passed_true b WrongLength suitable) (ap (λ (n : ℕ). leb n (length out)) (sym long) ∙ p.0))
-
-    pub all_written : (now : List ℕ) (next : ℕ) → Passes (leb k (length out)) BufferTooShort → Laid 0 out bytes now next → (now, Ok next) ≡ written_if b bytes out
-    all_written now next e s =
-        let p = laid_front out bytes now next s in
-        ap₂ (λ (xs : List ℕ) (n : ℕ). (xs, Ok n)) p.0 p.1
-        ∙ sym (ap₂ by_tests (passed_true b WrongLength suitable) (ap (λ (n : ℕ). leb n (length out)) (sym long) ∙ passed_true (leb k (length out)) BufferTooShort e))

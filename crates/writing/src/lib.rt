@@ -1,5 +1,5 @@
 // The writer of trace records.
 #![tactic(auto)]
 
-mod laying;
+mod pen;
 pub mod step_writer;

@@ -1,62 +1,29 @@
 // The writer of steps.
-ghost use Rattle.std.specs.Prelude.{◌≡◌, ◌*◌, ◌≤◌, true, ◌&&◌, [], ◌∷◌, length, take as firsts, IfOk, Some, ◌==◌, nat_lt};
+ghost use Rattle.std.specs.Prelude.{◌≡◌, ℕ, ◌≤◌, true, ◌&&◌, map, length, take as firsts, IfOk, Some, ◌==◌, nat_le};
 ghost use Rattle.terms.specs.declared.fault.Cause.TheVariants.{WrongLength};
 ghost use Rattle.terms.specs.Faults.{otherwise, unless};
-ghost use Rattle.law.specs.Calls.Call.{branch, chain, cut, cutoff, drop, infer, pin, take};
-ghost use Rattle.law.specs.Spelt.{line_of, lines_of, places_of};
+ghost use Rattle.terms.specs.Bytes.{nat16};
+ghost use Rattle.law.specs.Calls.Call.{infer};
+ghost use Rattle.law.specs.Spelt.{line_of, lines_of};
 ghost use Rattle.spelling.specs.OneSpelling.{ReadsBack};
 ghost use Rattle.spelling.specs.StepsSeen.{call_in};
-ghost use Rattle.spelling.specs.StepsWritten.{counted, line_bytes, lines_bytes, lines_counted, number_bytes, numbers_bytes, spelling, written, written_if};
+ghost use Rattle.spelling.specs.StepsWritten.{counted, line_bytes, lines_bytes, lines_counted, mapped_bytes, spelling, suits, written};
+ghost use Rattle.writing.specs.Laid.{HasRoom, Lays};
 
-use crate::laying::{
-    lay_bytes, lay_i64, lay_line, lay_lines, lay_mapped, lay_places, lay_u8, lay_u16,
-};
-use law::premise::{Line, Lines, Places};
+use crate::pen::Pen;
+use law::premise::{Line, Lines};
 use law::step::Step;
 use terms::checks::need;
 use terms::fault::{Cause, Fault};
 
-// A number that is 0 has no bytes.
-fn number_length(number: i32) -> usize
-    ensures is { result ≡ length (number_bytes number) }
-    ensures small { result ≤ 4 }
-{
-    if number == 0 { 0 } else { 4 }
-}
-
-fn numbers_length(numbers: &[i32]) -> usize
-    requires { length numbers.now ≤ 16 }
-    ensures is { result ≡ length (numbers_bytes numbers.now) }
-    ensures small { result ≤ 64 }
-{
-    let mut total = 0;
-    for i in 0..numbers.len() {
-        total += number_length(numbers[i]);
-    }
-    total
-}
-
-fn write_branch(n: usize, coefficients: &[i32], right: i64, out: &mut [u8]) -> Result<usize, Fault>
+// The length of n numbers by a map: four bytes for each that is not 0.
+fn mapped_length(n: usize, numbers: &[i32]) -> Result<usize, Fault>
     requires { n ≤ 16 }
-    ensures { (out.new, result) ≡ written_if (length coefficients.entry.now == n) (spelling (Some (branch (record { coefficients = coefficients.entry.now; right = right })))) out.old }
+    ensures is { result ≡ otherwise (unless (length numbers.now == n) WrongLength 0) (length (mapped_bytes numbers.now)) }
+    ensures small { IfOk result (λ k. k ≤ 66) }
 {
-    need(coefficients.len() == n, Cause::WrongLength, 0)?;
-    let length = 11 + numbers_length(coefficients);
-    need(length <= out.len(), Cause::BufferTooShort, 0)?;
-    let numbers = lay_u8(b'B', 0, out);
-    let side = lay_mapped(coefficients, numbers, out);
-    Ok(lay_i64(right, side, out))
-}
-
-fn write_take(n: usize, values: &[i32], out: &mut [u8]) -> Result<usize, Fault>
-    requires { n ≤ 16 }
-    ensures { (out.new, result) ≡ written_if (length values.now == n) (spelling (Some (take values.now))) out.old }
-{
-    need(values.len() == n, Cause::WrongLength, 0)?;
-    let length = 3 + numbers_length(values);
-    need(length <= out.len(), Cause::BufferTooShort, 0)?;
-    let numbers = lay_u8(b'T', 0, out);
-    Ok(lay_mapped(values, numbers, out))
+    need(numbers.len() == n, Cause::WrongLength, 0)?;
+    Ok(2 + 4 * numbers.iter().filter(|number| **number != 0).count())
 }
 
 // The length of a line whose premises a byte can count.
@@ -69,15 +36,6 @@ fn line_length(line: &Line<'_>) -> Result<usize, Fault>
     Ok(5 + 4 * count)
 }
 
-fn write_cut(line: &Line<'_>, out: &mut [u8]) -> Result<usize, Fault>
-    ensures { (out.new, result) ≡ written_if (counted (line_of line.now).premises) (spelling (Some (cut (line_of line.now)))) out.old }
-{
-    let length = 1 + line_length(line)?;
-    need(length <= out.len(), Cause::BufferTooShort, 0)?;
-    let body = lay_u8(b'C', 0, out);
-    Ok(lay_line(line, body, out))
-}
-
 // The length of lines that a byte can count, as it can count their premises.
 fn lines_length(lines: Lines<'_>) -> Result<usize, Fault>
     ensures is { result ≡ otherwise (unless (counted (lines_of lines.entry) && lines_counted (lines_of lines.entry)) WrongLength 0) (length (lines_bytes (lines_of lines.entry))) }
@@ -85,69 +43,92 @@ fn lines_length(lines: Lines<'_>) -> Result<usize, Fault>
 {
     need(lines.count <= 255, Cause::WrongLength, 0)?;
     let mut total = 0;
-    let mut left = lines;
-    for i in 0..lines.count {
-        total += line_length(&left.first())?;
-        left = left.rest();
+    for line in lines {
+        total += line_length(&line)?;
     }
     Ok(total)
 }
 
-fn write_chain(lines: Lines<'_>, out: &mut [u8]) -> Result<usize, Fault>
-    ensures { (out.new, result) ≡ written_if (counted (lines_of lines.entry) && lines_counted (lines_of lines.entry)) (spelling (Some (chain (lines_of lines.entry)))) out.old }
+// The length of a step, or the end, whose lists suit n variables and clues of so many bytes.
+fn step_length(n: usize, width: usize, step: Option<Step<'_>>) -> Result<usize, Fault>
+    ensures { result ≡ otherwise (unless (nat_le n 16 && suits n width (call_in step.entry)) WrongLength 0) (length (spelling (call_in step.entry))) }
 {
-    let length = 2 + lines_length(lines)?;
-    need(length <= out.len(), Cause::BufferTooShort, 0)?;
-    let count = lay_u8(b'L', 0, out);
-    let body = lay_u8(lines.count as u8, count, out);
-    Ok(lay_lines(lines, body, out))
+    need(n <= 16, Cause::WrongLength, 0)?;
+    // Here and below a match says which: the kinds of step are closed, and each brings something else.
+    match step {
+        Some(Step::Branch(coefficients, _)) => Ok(9 + mapped_length(n, coefficients.values())?),
+        Some(Step::Cut(line)) => Ok(1 + line_length(&line)?),
+        Some(Step::Chain(lines)) => Ok(2 + lines_length(lines)?),
+        Some(Step::Infer(clue, places)) => {
+            need(clue.len() == width, Cause::WrongLength, 0)?;
+            need(places.len() <= 255, Cause::WrongLength, 0)?;
+            Ok(2 + clue.len() + 2 * places.len())
+        }
+        Some(Step::Take(values)) => Ok(1 + mapped_length(n, values.values())?),
+        Some(Step::Drop(place)) => {
+            need(place < 65_536, Cause::WrongLength, 0)?;
+            Ok(3)
+        }
+        Some(Step::Pin(places)) => {
+            need(places.len() == 2 * n, Cause::WrongLength, 0)?;
+            Ok(1 + 4 * n)
+        }
+        Some(Step::Cutoff) | None => Ok(1),
+    }
 }
 
-fn write_infer(
-    width: usize,
-    clue: &[u8],
-    places: &Places<'_>,
-    out: &mut [u8],
-) -> Result<usize, Fault>
-    ensures { (out.new, result) ≡ written_if (length clue.now == width && counted (places_of places.now)) (spelling (Some (infer clue.now (places_of places.now)))) out.old }
-{
-    need(clue.len() == width, Cause::WrongLength, 0)?;
-    need(places.len() <= 255, Cause::WrongLength, 0)?;
-    let length = 2 + clue.len() + 2 * places.len();
-    need(length <= out.len(), Cause::BufferTooShort, 0)?;
-    let front = lay_u8(b'I', 0, out);
-    let count = lay_bytes(clue, front, out);
-    let body = lay_u8(places.len() as u8, count, out);
-    Ok(lay_places(places, body, out))
+impl Pen<'_> {
+    fn put_infer(&mut self, clue: &[u8], places: &[[u8; 2]])
+        requires few { length places.now ≤ 255 }
+        requires room { HasRoom self.old (spelling (Some (infer clue.now (map nat16 places.now)))) }
+        ensures { Lays self.old (spelling (Some (infer clue.now (map nat16 places.now)))) self.new }
+    {
+        self.put(b"I");
+        self.put(clue);
+        self.put(&[places.len() as u8]);
+        self.put_places(places);
+    }
+
+    fn put_step(&mut self, step: Option<Step<'_>>)
+        requires suits { (n : ℕ) × (width : ℕ) × ((nat_le n 16 && suits n width (call_in step)) ≡ true) }
+        requires room { HasRoom self.old (spelling (call_in step)) }
+        ensures { Lays self.old (spelling (call_in step.entry)) self.new }
+    {
+        match step {
+            Some(Step::Branch(coefficients, right)) => {
+                self.put(b"B");
+                self.put_mapped(coefficients.values());
+                self.put(&right.to_le_bytes());
+            }
+            Some(Step::Cut(line)) => {
+                self.put(b"C");
+                self.put_line(&line);
+            }
+            Some(Step::Chain(lines)) => {
+                self.put(b"L");
+                self.put(&[lines.count as u8]);
+                self.put_lines(lines);
+            }
+            Some(Step::Infer(clue, places)) => self.put_infer(clue, places.items),
+            Some(Step::Cutoff) => self.put(b"K"),
+            Some(Step::Take(values)) => {
+                self.put(b"T");
+                self.put_mapped(values.values());
+            }
+            Some(Step::Drop(place)) => {
+                self.put(b"D");
+                self.put(&(place as u16).to_le_bytes());
+            }
+            Some(Step::Pin(places)) => {
+                self.put(b"P");
+                self.put_places(places.items);
+            }
+            None => self.put(b"E"),
+        }
+    }
 }
 
-fn write_drop(place: usize, out: &mut [u8]) -> Result<usize, Fault>
-    ensures { (out.new, result) ≡ written_if (nat_lt place 65536) (spelling (Some (drop place))) out.old }
-{
-    need(place < 65_536, Cause::WrongLength, 0)?;
-    need(3 <= out.len(), Cause::BufferTooShort, 0)?;
-    let body = lay_u8(b'D', 0, out);
-    Ok(lay_u16(place as u16, body, out))
-}
-
-fn write_pin(n: usize, places: &Places<'_>, out: &mut [u8]) -> Result<usize, Fault>
-    requires { n ≤ 16 }
-    ensures { (out.new, result) ≡ written_if (length (places_of places.now) == 2 * n) (spelling (Some (pin (places_of places.now)))) out.old }
-{
-    need(places.len() == 2 * n, Cause::WrongLength, 0)?;
-    need(1 + 4 * n <= out.len(), Cause::BufferTooShort, 0)?;
-    let body = lay_u8(b'P', 0, out);
-    Ok(lay_places(places, body, out))
-}
-
-// A record that is its letter alone.
-fn write_letter(letter: u8, out: &mut [u8]) -> Result<usize, Fault>
-    ensures { (out.new, result) ≡ written_if true (letter ∷ []) out.old }
-{
-    need(1 <= out.len(), Cause::BufferTooShort, 0)?;
-    Ok(lay_u8(letter, 0, out))
-}
-
+// n and width stand apart, as in the public call.
 fn write_record(
     n: usize,
     width: usize,
@@ -156,20 +137,11 @@ fn write_record(
 ) -> Result<usize, Fault>
     ensures { (out.new, result) ≡ written n width (call_in step.entry) out.old }
 {
-    need(n <= 16, Cause::WrongLength, 0)?;
-    match step {
-        Some(Step::Branch(coefficients, right)) => {
-            write_branch(n, coefficients.values(), right, out)
-        }
-        Some(Step::Cut(line)) => write_cut(&line, out),
-        Some(Step::Chain(lines)) => write_chain(lines, out),
-        Some(Step::Infer(clue, places)) => write_infer(width, clue, &places, out),
-        Some(Step::Cutoff) => write_letter(b'K', out),
-        Some(Step::Take(values)) => write_take(n, values.values(), out),
-        Some(Step::Drop(place)) => write_drop(place, out),
-        Some(Step::Pin(places)) => write_pin(n, &places, out),
-        None => write_letter(b'E', out),
-    }
+    let length = step_length(n, width, step)?;
+    need(length <= out.len(), Cause::BufferTooShort, 0)?;
+    let mut pen = Pen::new(out);
+    pen.put_step(step);
+    Ok(pen.at)
 }
 
 // Writes a step, or the end, to the front of a buffer, for n variables and clues of so many bytes; its length.

@@ -1,26 +1,18 @@
-use Rattle.std.proofs.Common.{pos, sym, ap, ◌∙◌, arith, w32, SFits, rules}
-use Rattle.std.proofs.lemmas.Int.{to_z-of_z}
+use Rattle.std.proofs.Common.{◌≡◌, ℕ, get_or, pos, refl, ◌∙◌, arith, rules}
+use borrow.Author.Tests.{tests}
+use Rattle.std.proofs.lemmas.Iterator.{YieldsList-from_range}
+use Rattle.std.proofs.lemmas.Iterator.Search.{all_from_yields_List}
+use Rattle.std.specs.List.{list_all, range_with_len}
 use Rattle.terms.specs.Integers.{eq_z}
 use Rattle.terms.specs.Rows.{difference_row}
 use Rattle.terms.proofs.ByPlace.{length-difference}
-use Rattle.derivation.proofs.EveryNumber.{number_goes, number-stops, numbers_all}
+use Rattle.derivation.proofs.EveryPlace.{every_place}
 use Rattle.derivation.proofs.bounding.is_empty.Goals as goal
-
-pub returns-then-not-is_same : goal.returns-then-not-is_same
-returns-then-not-is_same c =
-    let n = c.args.n in let d = c.args.d.now in
-    let g : SFits w32 c.coefficient.result = search rules in
-    let t = ap (eq_z (pos 0)) (sym (to_z-of_z w32 c.coefficient.result g ∙ c.coefficient.ensures)) ∙ sym c.if-not-is_same.ensures in
-    number-stops (eq_z (pos 0)) (difference_row n d).coefficients c.loop-i.i _ c.loop-i.invariant (omega (arith, c.loop-i-test.true, length-difference n d)) t
-
-pub loop-i-preserved : goal.loop-i-preserved
-loop-i-preserved c =
-    let n = c.args.n in let d = c.args.d.now in
-    let g : SFits w32 c.coefficient.result = search rules in
-    let t = ap (eq_z (pos 0)) (sym (to_z-of_z w32 c.coefficient.result g ∙ c.coefficient.ensures)) ∙ sym c.if-not-is_same.ensures in
-    number_goes (eq_z (pos 0)) (difference_row n d).coefficients c.loop-i.i _ c.loop-i.invariant (omega (arith, c.loop-i-test.true, length-difference n d)) t
 
 pub returns : goal.returns
 returns c =
     let n = c.args.n in let d = c.args.d.now in
-    numbers_all (eq_z (pos 0)) (difference_row n d).coefficients c.loop-i.i _ c.loop-i.invariant (omega (arith, c.loop-i-test.false, length-difference n d))
+    let test : ℕ → _ = λ i. eq_z (pos 0) (get_or (difference_row n d).coefficients i (pos 0)) in
+    let e : c.all.result ≡ list_all test (range_with_len 0 n) =
+    all_from_yields_List test _ _ c.all.result c.all.ensures.ran (YieldsList-from_range 0 n n refl (omega arith)) (λ x b q k. search (rules, tests)) in
+    e ∙ every_place test (eq_z (pos 0)) (difference_row n d).coefficients n (length-difference n d) (λ i. refl)

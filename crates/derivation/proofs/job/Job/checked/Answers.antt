@@ -19,10 +19,10 @@ long : (o : StoredJob) (n : ℕ) → unless (eqb n o.size) WrongLength 0 ≡ Non
 long o n e = ap (eqb n) (size_is o) ∙ unless_passed (eqb n o.size) WrongLength 0 e
 
 -- the room check, by the numbers that the code has
-room : (o : StoredJob) (relation : Relation) (row : Row) (k : ℕ) → k ≡ length (rewritten relation row) →
-    unless (leb (o.count + k) 64) Full 0 ≡ unless (leb (length (job_of o).rows + length (rewritten relation row)) 64) Full 0
-room o relation row k e =
-    ap₂ (λ a b. unless (leb (a + b) 64) Full 0) (sym (rows_are o)) e
+room : (o : StoredJob) (relation : Relation) (row : Row) (n k : ℕ) → n ≡ length o.rows.items → k ≡ length (rewritten relation row) →
+    unless (leb (n + k) 64) Full 0 ≡ unless (leb (length (job_of o).rows + length (rewritten relation row)) 64) Full 0
+room o relation row n k l e =
+    ap₂ (λ a b. unless (leb (a + b) 64) Full 0) (l ∙ sym (rows_are o)) e
 
 pub returns-in_err-row : goal.returns-in_err-row
 returns-in_err-row c =
@@ -40,7 +40,7 @@ returns-in_err-need-2 c =
     let s = sym (ap (λ z. first_fault (row_limits cs z)) (to_z-of_z w64 c.args.right c.ranges.right)) ∙ (passed _ _ _ c.in_ok-row.ensures).0 in
     let q = room_left (job_of o) cs c.args.letter c.args.right (size_small o) (long o (length cs) h) relation s (named _ _ c.in_ok-relation.ensures) in
     let row : Row = record { coefficients = cs; right = c.args.right } in
-    let r = sym (room o relation row c.rows_of.result (c.rows_of.ensures.value row)) ∙ stopped _ _ _ c.in_err-need-2.ensures in
+    let r = sym (room o relation row c.len.result c.rows_of.result c.len.ensures.value (c.rows_of.ensures.value row)) ∙ stopped _ _ _ c.in_err-need-2.ensures in
     refused_case _ _ _ c.in_err-need-2.field-0.0 (p.1 ∙ ap Err p.2) (q ∙ stop_one _ [] _ r)
 
 pub returns : goal.returns
@@ -53,5 +53,5 @@ returns c =
     let n = named _ _ c.in_ok-relation.ensures in
     let q = room_left (job_of o) cs c.args.letter c.args.right (size_small o) (long o (length cs) h) relation s n in
     let row : Row = record { coefficients = cs; right = c.args.right } in
-    let r = sym (room o relation row c.rows_of.result (c.rows_of.ensures.value row)) ∙ (passed _ _ _ c.in_ok-need-2.ensures).0 in
+    let r = sym (room o relation row c.len.result c.rows_of.result c.len.ensures.value (c.rows_of.ensures.value row)) ∙ (passed _ _ _ c.in_ok-need-2.ensures).0 in
     record { passed = q ∙ pass_one _ [] r; named = n; is = e.1 ∙ ap (λ z. record { coefficients = padded cs; right = z }) t }

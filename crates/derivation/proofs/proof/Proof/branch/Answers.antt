@@ -1,16 +1,16 @@
 use Rattle.std.proofs.Common.{refl, ap, ◌∙◌, w64}
 use Rattle.std.proofs.lemmas.Int.{to_z-of_z}
-use Rattle.theories.specs.Meaning.{on_bytes}
 use Rattle.law.specs.Calls.Call.{branch}
 use Rattle.law.specs.Pile.{called}
+use Rattle.derivation.specs.ProofView.{meaning_held}
 use Rattle.derivation.specs.StateView.{job_in, moment_of}
 use Rattle.derivation.proofs.proof.Proof.branch.Goals as goal
 
 pub returns : goal.returns
 returns g c =
-    let s = c.args.self.now.state in let th = on_bytes g.T.Theory.reads (g.T.Theory.means c.args.self.now.theory) in
+    let s = c.args.self.now.state in let th = meaning_held g.T.Theory.reads g.T.Theory.means c.args.self.now in let w = c.branch-self.ensures th in
     record {
-      step = c.branch-self.ensures.step th ∙ ap (λ z. called (job_in s) th (moment_of s) (branch (record { coefficients = c.args.coefficients.now; right = z }))) (to_z-of_z w64 c.args.right c.ranges.right);
-      job = c.branch-self.ensures.job;
+      step = w.step ∙ ap (λ z. called (job_in s) th (moment_of s) (branch (record { coefficients = c.args.coefficients.now; right = z }))) (to_z-of_z w64 c.args.right c.ranges.right);
+      job = w.job;
       theory = refl;
     }

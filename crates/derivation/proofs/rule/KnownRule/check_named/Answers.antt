@@ -1,34 +1,26 @@
-use Rattle.std.proofs.Common.{◌≡◌, ℕ, ◌<◌, [], ◌∷◌, ◌++◌, length, get_or, take, sym, ap, ◌∙◌, arith}
-use Rattle.std.proofs.lemmas.List.{get_or_append_left, get_or-take, length-append}
+use Rattle.std.proofs.Common.{◌≡◌, not, [], ◌∷◌, ◌++◌, map, length, Some, option_map, position, sym, ap, ◌∙◌, subst, rules}
+use borrow.Author.Tests.{tests}
+use Rattle.std.specs.Iterator.Adapters.{once_item, once_steps}
+use Rattle.std.specs.Option.{option_to_list}
+use Rattle.std.proofs.lemmas.Iterator.{YieldsList, YieldsList-from_slice}
+use Rattle.std.proofs.lemmas.Iterator.Consumers.{YieldsList-at, YieldsList-from_chain, YieldsList-from_shown}
+use Rattle.std.proofs.lemmas.Iterator.Search.{position_from_yields_List}
 use Rattle.terms.specs.declared.fault.Cause.TheVariants.{PlaceNotVariable}
-use Rattle.terms.specs.Faults.{answered, unless}
-use Rattle.terms.proofs.FirstFault.{first_more, first_stop}
+use Rattle.terms.specs.Faults.{answered, fault}
+use Rattle.terms.proofs.FirstFault.{first_at}
 use Rattle.law.specs.Steps.{both_named}
-use Rattle.derivation.specs.declared.rule.KnownRule.{KnownRule}
-use Rattle.derivation.proofs.RulesChecked.{last_left, no_difference, premises_long}
 use Rattle.derivation.proofs.rule.KnownRule.check_named.Goals as goal
 
-premise_at_lem : (k : KnownRule) (i : ℕ) → i < k.count → get_or (take k.count k.premises ++ k.conclusion ∷ []) i no_difference ≡ get_or k.premises i no_difference
-premise_at_lem k i h = get_or_append_left (take k.count k.premises) _ no_difference i (omega (arith, premises_long k)) ∙ get_or-take k.count k.premises i no_difference h
-
-in_all : (k : KnownRule) (i : ℕ) → i < k.count → i < length (take k.count k.premises ++ k.conclusion ∷ [])
-in_all k i h = omega (arith, premises_long k, length-append (take k.count k.premises) (k.conclusion ∷ []))
-
-pub returns-then-not-are_named : goal.returns-then-not-are_named
-returns-then-not-are_named c =
-    let k = c.args.self.now in let n = c.args.n in let i = c.loop-i.i in let h = c.loop-i-test.true in
-    let t = ap (both_named n) (premise_at_lem k i h) ∙ sym c.if-not-are_named.ensures in
-    ap answered (sym (first_stop (both_named n) no_difference PlaceNotVariable (take k.count k.premises ++ k.conclusion ∷ []) i (in_all k i h) t) ∙ c.loop-i.invariant.0)
-
-pub loop-i-preserved : goal.loop-i-preserved
-loop-i-preserved c =
-    let k = c.args.self.now in let n = c.args.n in let i = c.loop-i.i in let h = c.loop-i-test.true in
-    let t = ap (both_named n) (premise_at_lem k i h) ∙ sym c.if-not-are_named.ensures in
-    (sym (first_more (both_named n) no_difference PlaceNotVariable (take k.count k.premises ++ k.conclusion ∷ []) i (in_all k i h) t) ∙ c.loop-i.invariant.0, omega (arith, h))
+-- one item, seen through v
+YieldsList-from_one : {A B : Type 0} (v : A → B) {s : _} (x : A) → once_item s ≡ Some x → YieldsList once_steps v s (v x ∷ [])
+YieldsList-from_one v {s} x e =
+    subst (λ k. YieldsList once_steps v s (map v (option_to_list k))) e
+    (YieldsList-from_shown once_steps v (λ u. map v (option_to_list (once_item u))) (λ u t p. ap (λ k. length (map v (option_to_list k))) (sym p.0))
+    (λ u y t p. ap (λ k. map v (option_to_list k)) (sym p.0) ∙ ap (λ k. v y ∷ map v (option_to_list k)) (sym p.1)) s)
 
 pub returns : goal.returns
 returns c =
-    let k = c.args.self.now in let n = c.args.n in let i = c.loop-i.i in
-    let e : i ≡ k.count = omega (arith, c.loop-i.invariant.1, c.loop-i-test.false) in
-    c.need.ensures
-    ∙ ap answered (ap (λ b. unless b PlaceNotVariable k.count) c.are_named-2.ensures ∙ sym (last_left (both_named n) PlaceNotVariable (take k.count k.premises) k.conclusion i k.count (premises_long k) e) ∙ c.loop-i.invariant.0)
+    let k = c.args.self.now in let ds = k.premises.items ++ k.conclusion ∷ [] in
+    let road = YieldsList-from_chain (YieldsList-at c.chain.ensures.first (YieldsList-from_slice k.premises.items (c.iter.ensures.rest ∙ c.deref.ensures.0))) (YieldsList-from_one (λ d. d.now) _ (ap once_item c.chain.ensures.second ∙ c.once.ensures.item)) c.chain.ensures.first_done c.chain.ensures.second_done in
+    let e : c.position.result ≡ position (λ d. not (both_named c.args.n d)) ds = position_from_yields_List (λ d. not (both_named c.args.n d)) _ _ c.position.result c.position.ensures.ran road (λ x b q k. search (rules, tests)) in
+    c.need_none.ensures ∙ ap answered (ap (option_map (fault PlaceNotVariable)) e ∙ first_at (both_named c.args.n) PlaceNotVariable ds)

@@ -1,4 +1,4 @@
-use Rattle.std.proofs.Common.{Err, sym, refl, ap, ◌∙◌, ap₂, arith}
+use Rattle.std.proofs.Common.{Err, sym, refl, ap, ◌∙◌, ap₂}
 use Rattle.std.proofs.lemmas.Result.{err_from_is_err_and}
 use Rattle.terms.specs.Faults.{first_fault}
 use Rattle.terms.specs.Stored.{row_of}
@@ -10,7 +10,7 @@ use Rattle.law.specs.Table.{joined}
 use Rattle.derivation.specs.RuleView.{rule_held}
 use Rattle.derivation.specs.StateView.{holding_of, job_in, moment_of}
 use Rattle.derivation.proofs.RulesChecked.{conclusion_row, is_there, rule_room}
-use Rattle.derivation.proofs.StepsTaken.{job_kept, rows_long, size_in, step_pushed, step_refused}
+use Rattle.derivation.proofs.StepsTaken.{job_kept, size_in, step_pushed, step_refused}
 use Rattle.derivation.proofs.state.State.infer.Goals as goal
 
 pub returns-in_err-check_rule : goal.returns-in_err-check_rule
@@ -18,8 +18,8 @@ returns-in_err-check_rule c =
     let s = c.args.self.now in let p = holding_of s in let ps = places_of c.args.places.now in
     let e = err_from_is_err_and c.from_residual.result c.from_residual.ensures.1 in
     let refused = stopped _ _ _ c.in_err-check_rule.ensures in
-    record {
-      step = λ th clue is. ap (λ r. (moment_of s, r)) (e.1 ∙ ap Err e.2)
+    λ th clue is. record {
+      step = ap (λ r. (moment_of s, r)) (e.1 ∙ ap Err e.2)
           ∙ step_refused (job_in s) th p (infer clue ps) _ c.requires (ap₂ (λ m u. first_fault (rule_checks m p.table u ps)) (size_in s) is ∙ refused);
       job = refl;
     }
@@ -34,7 +34,7 @@ pub push-requires : goal.push-requires
 push-requires c =
     let s = c.args.self.now in
     let room = rule_room s.table.size (holding_of s).table (rule_held c.args.rule.now) (places_of c.args.places.now) (passed _ _ _ c.in_ok-check_rule.ensures).0 in
-    omega (arith, room, rows_long s.table)
+    room
 
 pub returns : goal.returns
 returns c =
@@ -42,8 +42,8 @@ returns c =
     let t = c.push.new.self in let fixed = c.push.ensures.fixed in let r = c.in-Some.row in
     let clear = (passed _ _ _ c.in_ok-check_rule.ensures).0 in
     let is = conclusion_row n k r s.table.narrow c.in-Some.ensures in
-    record {
-      step = λ th clue e. step_pushed s th (infer clue ps) t fixed (row_of n r) c.push.ensures.held c.requires
+    λ th clue e. record {
+      step = step_pushed s th (infer clue ps) t fixed (row_of n r) c.push.ensures.held c.requires
           (ap₂ (λ m u. first_fault (rule_checks m p.table u ps)) (size_in s) e ∙ clear)
           (ap (joined p.table p.heights p.taken) (is ∙ sym (ap₂ rule_row (size_in s) e)));
       job = job_kept s t s.taken fixed;

@@ -27,7 +27,7 @@ returns c =
     let e = passed _ _ _ c.in_ok-row.ensures in
     let s = sym (ap (λ z. first_fault (row_limits cs z)) t) ∙ e.0 in
     let below = sym (ap (λ z. unless (lt_z z (pos right_limit)) OutOfRange (length cs)) t) ∙ (passed _ _ _ c.in_ok-need-2.ensures).0 in
-    let room = has_room (held_of o).rows c.len.result c.len.ensures.value (passed _ _ _ c.in_ok-need-3.ensures).0 in
+    let room = has_room (held_of o).rows c.len.result c.len.ensures (passed _ _ _ c.in_ok-need-3.ensures).0 in
     record {
       passed = limits_pass o.size (held_of o).rows cs c.args.right o.narrow h s ∙ pass_one _ _ below ∙ pass_one _ [] room;
       is = e.1 ∙ ap (λ z. record { coefficients = padded cs; right = z }) t;

@@ -1,25 +1,18 @@
-use Rattle.std.proofs.Common.{◌≡◌, true, false, ltb, length, get_or, sym, ap, ◌∙◌, arith}
-use Rattle.std.proofs.lemmas.Bool.{le-ltb, lt-ltb}
+use Rattle.std.proofs.Common.{◌≡◌, ℕ, Bool, not, ltb, List, length, option_map, position, sym, ap, ◌∙◌, rules}
+use borrow.Author.Tests.{tests}
+use Rattle.std.proofs.lemmas.Iterator.{YieldsList-from_slice}
+use Rattle.std.proofs.lemmas.Iterator.Search.{position_from_yields_List}
+use Rattle.std.proofs.lemmas.Simd.{map-map}
 use Rattle.terms.specs.declared.fault.Cause.TheVariants.{NoSuchPlace}
-use Rattle.terms.specs.Faults.{answered}
-use Rattle.terms.proofs.FirstFault.{first_all, first_more, first_stop}
-use Rattle.law.specs.Spelt.{places_of}
+use Rattle.terms.specs.Bytes.{nat16}
+use Rattle.terms.specs.Faults.{answered, fault, first_unless}
+use Rattle.terms.proofs.FirstFault.{first_at}
 use Rattle.derivation.specs.TableView.{held_of}
 use Rattle.derivation.proofs.table.Table.check_places.Goals as goal
 
-pub returns-then-get-len : goal.returns-then-get-len
-returns-then-get-len c =
-    let rows = (held_of c.args.self.now).rows in let ps = places_of c.args.places.now in let i = c.loop-i.i in
-    let t : ltb (get_or ps i 0) (length rows) ≡ false = le-ltb (get_or ps i 0) (length rows) (omega (arith, c.get.ensures, c.len.ensures.value, c.if-get-len.true)) in
-    ap answered (sym (first_stop (λ p. ltb p (length rows)) 0 NoSuchPlace ps i (omega (arith, c.loop-i-test.true, c.len-i-end.ensures)) t) ∙ c.loop-i.invariant)
-
-pub loop-i-preserved : goal.loop-i-preserved
-loop-i-preserved c =
-    let rows = (held_of c.args.self.now).rows in let ps = places_of c.args.places.now in let i = c.loop-i.i in
-    let t : ltb (get_or ps i 0) (length rows) ≡ true = lt-ltb (get_or ps i 0) (length rows) (omega (arith, c.get.ensures, c.len.ensures.value, c.if-get-len.false)) in
-    sym (first_more (λ p. ltb p (length rows)) 0 NoSuchPlace ps i (omega (arith, c.loop-i-test.true, c.len-i-end.ensures)) t) ∙ c.loop-i.invariant
-
 pub returns : goal.returns
 returns c =
-    let rows = (held_of c.args.self.now).rows in let ps = places_of c.args.places.now in
-    ap answered (sym (first_all (λ p. ltb p (length rows)) 0 NoSuchPlace ps c.loop-i.i (omega (arith, c.loop-i-test.false, c.len-i-end.ensures))) ∙ c.loop-i.invariant)
+    let o = c.args.self.now in let items = c.args.places.now.items.now in
+    let test : List ℕ → Bool = λ item. ltb (nat16 item) (length (held_of o).rows) in
+    let e : c.position.result ≡ position (λ item. not (test item)) items = position_from_yields_List (λ item. not (test item)) _ _ c.position.result c.position.ensures.ran (YieldsList-from_slice items c.iter.ensures.rest) (λ x b q k. search (rules, tests)) in
+    c.need_none.ensures ∙ ap answered (ap (option_map (fault NoSuchPlace)) e ∙ first_at test NoSuchPlace items ∙ sym (ap (first_unless NoSuchPlace 0) (map-map (λ p. ltb p (length (held_of o).rows)) nat16 items)))

@@ -1,13 +1,20 @@
-use Rattle.std.proofs.Common.{◌≡◌, ◌-◌, map, take, is_ok, ap, ◌∙◌, arith}
-use Rattle.terms.specs.declared.fault.Cause.TheVariants.{RowMissed}
+use Rattle.std.proofs.Common.{◌≡◌, Bool, take, ap, ◌∙◌, arith, rules}
+use borrow.Author.Tests.{tests}
+use Rattle.std.specs.List.{list_all}
+use Rattle.std.proofs.lemmas.List.{length-take-le}
+use Rattle.std.proofs.lemmas.Iterator.{YieldsList-from_slice}
+use Rattle.std.proofs.lemmas.Iterator.Search.{all_from_yields_List}
+use Rattle.terms.specs.declared.row.Row.{Row as Stored}
 use Rattle.terms.specs.Rows.{meets}
+use Rattle.terms.specs.Stored.{whole}
 use Rattle.theories.specs.Pairs.{every}
-use Rattle.derivation.specs.TableView.{held_of}
-use Rattle.derivation.proofs.EveryTest.{every-answered}
+use Rattle.derivation.proofs.EveryTest.{every-list_all}
+use Rattle.derivation.proofs.RowsMet.{rows_met}
 use Rattle.derivation.proofs.table.Table.is_met.Goals as goal
 
 pub returns : goal.returns
 returns c =
-    let o = c.args.self.now in let xs = c.args.point.now.items in
-    let z : o.size - 0 ≡ o.size = omega arith in
-    c.is_ok.ensures.value ∙ ap is_ok c.check_met.ensures ∙ every-answered RowMissed 0 (map (meets (take (o.size - 0) xs)) (held_of o).rows) ∙ ap (λ k. every (map (meets (take k xs)) (held_of o).rows)) z
+    let o = c.args.self.now in let x = take o.size c.args.point.now.items in let rows = o.rows.items in
+    let test : Stored → Bool = λ r. meets x (whole r) in
+    let e : c.all.result ≡ list_all test rows = all_from_yields_List test _ _ c.all.result c.all.ensures.ran (YieldsList-from_slice rows (c.iter.ensures.rest ∙ c.deref.ensures.0)) (λ x b q k. search (rules, tests)) in
+    e ∙ every-list_all test rows ∙ ap every (rows_met o.size x rows (omega (arith, length-take-le o.size c.args.point.now.items (omega (arith, o.narrow, c.args.point.now.long)))))

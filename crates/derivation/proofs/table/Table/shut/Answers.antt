@@ -1,37 +1,41 @@
-use Rattle.std.proofs.Common.{◌-◌, ◌<◌, map, reverse, take, sym, ap, ◌∙◌, ap₂, arith}
-use Rattle.std.proofs.lemmas.List.{length-set}
-use Rattle.terms.specs.Stored.{row_of, wholes}
+use Rattle.std.proofs.Common.{◌≡◌, ℕ, true, List, [], ◌∷◌, ◌++◌, map, reverse, length, get_or, take, Some, sym, ap, ◌∙◌}
+use Rattle.std.proofs.lemmas.List.{reverse-append}
+use Rattle.arrayvec.specs.ArrayVec.{ArrayVec}
+use Rattle.terms.specs.declared.row.Row.{Row as Stored}
+use Rattle.terms.specs.Stored.{row_of}
+use Rattle.derivation.specs.declared.table.Table.{Table}
+use Rattle.derivation.specs.Stacked.{heights_of, rights_of, stacked}
 use Rattle.derivation.specs.TableView.{shut_by}
-use Rattle.derivation.proofs.Stacks.{given_kept}
-use Rattle.derivation.proofs.TableShut.{given_below, has_opposite, heights_are, stack_kept, table_is}
+use Rattle.derivation.proofs.TableShut.{given_kept, stack_kept, table_is}
 use Rattle.derivation.proofs.table.Table.shut.Goals as goal
 
-pub unreachable-requires : goal.unreachable-requires
-unreachable-requires c =
-    let o = c.args.self.now in let some : 0 < o.waiting = omega (arith, c.if-self-eq0.false) in
-    has_opposite o some c.newest-height.result c.newest-height.ensures.value c.index-self-height.result c.opposite.result c.in_default.is c.opposite.ensures
+-- the newest height in front of the others
+newest : (o : Table) (w v : ArrayVec ℕ) (h : ℕ) → o.waiting ≡ Some w → w.items ≡ v.items ++ h ∷ [] → heights_of o.waiting ≡ h ∷ reverse v.items
+newest o w v h is e = ap heights_of is ∙ ap reverse e ∙ reverse-append v.items (h ∷ [])
+
+-- the row there
+read_at : (o : Table) (rows : List Stored) (h : ℕ) (r : Stored) → r ≡ get_or rows h r → rows ≡ o.rows.items → r ≡ get_or o.rows.items h r
+read_at o rows h r is e = is ∙ ap (λ rs. get_or rs h r) e
 
 pub invariant_of-self-2 : goal.invariant_of-self-2
 invariant_of-self-2 c =
-    let o = c.args.self.now in let some : 0 < o.waiting = omega (arith, c.if-self-eq0.false) in
-    let h = c.newest-height.result in let s = c.in-Some.opposite in
-    let e = sym (ap wholes c.in-Some.is) ∙ c.opposite.ensures in
+    let o = c.args.self.now in let h = c.in-Some-pop.height in let r = c.index-deref-height.result in let s = c.in-Some-opposite.opposite in let older = reverse c.pop.new.self.items in
+    let waits = newest o c.in-Some.waiting c.pop.new.self h c.in-Some.is c.in-Some-pop.ensures.items in
+    let there = read_at o c.deref.result.now h r c.index-deref-height.is c.deref.ensures.0 in
+    let left = c.push.ensures.items ∙ ap (λ rs. rs ++ s ∷ []) c.truncate-2.ensures.items in
     record {
       narrow = o.narrow;
-      long = length-set o.rows h s ∙ o.long;
-      few = omega (arith, c.newest-height.ensures.bound, o.few);
-      tall = o.tall;
-      less = omega (arith, o.less);
-      stack = stack_kept o some h c.newest-height.ensures.value c.index-self-height.result s e;
+      stack = ap (λ rs. stacked o.given (rights_of rs) (length rs) older) left ∙ stack_kept o h older waits r there s c.in-Some-opposite.ensures;
     }
 
 pub returns : goal.returns
 returns c =
-    let o = c.args.self.now in let some : 0 < o.waiting = omega (arith, c.if-self-eq0.false) in
-    let h = c.newest-height.result in let s = c.in-Some.opposite in let v = c.newest-height.ensures.value in let d = c.index-self-height.result in
-    let e = sym (ap wholes c.in-Some.is) ∙ c.opposite.ensures in
-    let rows = map (row_of o.size) (take o.count o.rows) in let given = map (row_of o.size) (take o.given o.rows) in
+    let o = c.args.self.now in let h = c.in-Some-pop.height in let r = c.index-deref-height.result in let s = c.in-Some-opposite.opposite in let older = reverse c.pop.new.self.items in
+    let waits = newest o c.in-Some.waiting c.pop.new.self h c.in-Some.is c.in-Some-pop.ensures.items in
+    let there = read_at o c.deref.result.now h r c.index-deref-height.is c.deref.ensures.0 in
+    let left = c.push.ensures.items ∙ ap (λ rs. rs ++ s ∷ []) c.truncate-2.ensures.items in
+    let rows = map (row_of o.size) o.rows.items in let given = map (row_of o.size) (take o.given o.rows.items) in
     record {
-      held = ap₂ (λ rs m. record { rows = rs; heights = reverse (take (o.waiting - 1) o.heights); mark = m }) (table_is o some h v d s e) c.requires ∙ sym (ap (shut_by given rows) (heights_are o some h v d));
-      fixed = ap (λ rs. record { size = o.size; given = rs }) (given_kept o.size o.rows o.given h s (given_below o some h v d s e));
+      held = ap (λ rs. record { rows = rs; heights = older; mark = true }) (ap (map (row_of o.size)) left ∙ table_is o h older waits r there s c.in-Some-opposite.ensures) ∙ sym (ap (shut_by given rows) waits);
+      fixed = ap (λ rs. record { size = o.size; given = rs }) (ap (λ rs. map (row_of o.size) (take o.given rs)) left ∙ given_kept o h older waits r there s c.in-Some-opposite.ensures);
     }

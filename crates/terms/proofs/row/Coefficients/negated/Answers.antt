@@ -1,34 +1,30 @@
-use Rattle.std.proofs.Common.{◌≡◌, ℕ, ◌+◌, ◌≤◌, List, [], ◌∷◌, ◌++◌, length, get_or, take, set, ℤ, pos, ◌-ℤ◌, neg_ℤ, sym, ap, ◌∙◌, ap₂, arith, w32, SFits, to_z, of_z, rules}
+use borrow.Author.Tests.{tests}
+use Rattle.std.proofs.Common.{◌≡◌, ℕ, ◌<◌, List, length, get_or, ℤ, pos, ◌-ℤ◌, neg_ℤ, sym, ◌∙◌, arith, w32, SFits, to_z, of_z, rules}
 use mathlib.Core.Path.{subst⁻¹}
-use Rattle.std.proofs.lemmas.List.{take_more_set, map_more, take_all, length-set}
 use Rattle.std.proofs.lemmas.Int.{ints}
+use Rattle.std.proofs.lemmas.List.{ext_get_or, length-map}
 use Rattle.terms.specs.Rows.{negated}
+use Rattle.terms.proofs.ByPlace.{at_negated}
+use Rattle.terms.proofs.Made.{made_at}
 use Rattle.terms.proofs.SmallLists.{Small, negated_small}
 use Rattle.terms.proofs.row.Coefficients.negated.Goals as goal
 
 turned_is : (z : ℤ) → SFits w32 z → SFits w32 (neg_ℤ z) → to_z w32 (of_z w32 (pos 0 -ℤ to_z w32 (of_z w32 z))) ≡ neg_ℤ z
 turned_is z f g = omega (arith, ints)
 
-pub loop-i-preserved : goal.loop-i-preserved
-loop-i-preserved c =
-    let xs = c.args.self.now.items in let i = c.loop-i.i in
-    let z : ℤ = get_or xs i (pos 0) in
-    let n = c.args.self.now.small i in
-    let f : SFits w32 z = search rules in
-    let g : SFits w32 (neg_ℤ z) = omega (arith, ints) in
-    let e : take (i + 1) (set c.loop-i.items i (to_z w32 (of_z w32 (pos 0 -ℤ to_z w32 (of_z w32 z))))) ≡ negated (take (i + 1) xs) =
-    take_more_set c.loop-i.items i (to_z w32 (of_z w32 (pos 0 -ℤ to_z w32 (of_z w32 z)))) (omega (arith, c.loop-i.invariant.1))
-    ∙ ap₂ (λ ys y. ys ++ y ∷ []) c.loop-i.invariant.0 (turned_is z f g)
-    ∙ sym (map_more neg_ℤ xs i (pos 0) (omega (arith, c.args.self.now.long))) in
-    (e, length-set c.loop-i.items i _ ∙ c.loop-i.invariant.1)
+called : (xs : List ℤ) → Small xs → (i : ℕ) (P : Type 0) (y : ℤ) → P × (y ≡ to_z w32 (of_z w32 (pos 0 -ℤ to_z w32 (of_z w32 (get_or xs i (pos 0)))))) → P × (y ≡ neg_ℤ (get_or xs i (pos 0)))
+called xs s i P y e = let n = s i in (e.0, e.1 ∙ turned_is (get_or xs i (pos 0)) (omega (arith, ints)) (omega (arith, ints)))
 
-all_turned : (i : ℕ) (items xs : List ℤ) → 16 ≤ i → length items ≡ 16 → length xs ≡ 16 → take i items ≡ negated (take i xs) → items ≡ negated xs
-all_turned i items xs h l m e = sym (take_all i items (omega arith)) ∙ e ∙ ap negated (take_all i xs (omega arith))
+all_turned : (items xs : List ℤ) → length items ≡ 16 → length xs ≡ 16 → ((k : ℕ) → k < 16 → get_or items k (pos 0) ≡ neg_ℤ (get_or xs k (pos 0))) → items ≡ negated xs
+all_turned items xs m l e = ext_get_or (pos 0) items (negated xs) (m ∙ sym l ∙ sym (length-map xs neg_ℤ)) (λ k h. e k (omega arith) ∙ sym (at_negated xs k))
+
+pub returns : goal.returns
+returns c =
+    let xs = c.args.self.now.items in
+    all_turned c.from_fn.result xs c.from_fn.ensures.items.long c.args.self.now.long (made_at _ _ _ (λ k. neg_ℤ (get_or xs k (pos 0))) (pos 0) (λ i y q k. called xs c.args.self.now.small i (q ≡ record { 0 = c.args.self }) y (search (rules, tests))) 16 c.from_fn.ensures.items)
 
 pub invariant_of-result : goal.invariant_of-result
 invariant_of-result c =
-    let e = all_turned c.loop-i.i c.loop-i.items c.args.self.now.items c.loop-i-test.false c.loop-i.invariant.1 c.args.self.now.long c.loop-i.invariant.0 in
-    record { long = c.loop-i.invariant.1; small = subst⁻¹ Small e (negated_small c.args.self.now.items c.args.self.now.small) }
-
-pub returns : goal.returns
-returns c = all_turned c.loop-i.i c.loop-i.items c.args.self.now.items c.loop-i-test.false c.loop-i.invariant.1 c.args.self.now.long c.loop-i.invariant.0
+    let xs = c.args.self.now.items in
+    let e = all_turned c.from_fn.result xs c.from_fn.ensures.items.long c.args.self.now.long (made_at _ _ _ (λ k. neg_ℤ (get_or xs k (pos 0))) (pos 0) (λ i y q k. called xs c.args.self.now.small i (q ≡ record { 0 = c.args.self }) y (search (rules, tests))) 16 c.from_fn.ensures.items) in
+    record { long = c.from_fn.ensures.items.long; small = subst⁻¹ Small e (negated_small xs c.args.self.now.small) }

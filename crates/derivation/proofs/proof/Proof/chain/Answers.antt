@@ -1,0 +1,6 @@
+use Rattle.std.proofs.Common.{refl}
+use Rattle.derivation.specs.ProofView.{meaning_held}
+use Rattle.derivation.proofs.proof.Proof.chain.Goals as goal
+
+pub returns : goal.returns
+returns g c = let w = c.chain.ensures (meaning_held g.T.Theory.reads g.T.Theory.means c.args.self.now) in record { step = w.step; job = w.job; theory = refl }

@@ -1,0 +1,9 @@
+use Rattle.std.proofs.Common.{take}
+use Rattle.std.specs.Fmt.{HasWritten, IsPlainFormatter}
+use Rattle.std.specs.List.{flat_map}
+use Rattle.derivation.specs.VerdictText.{value_text}
+use Rattle.derivation.proofs.verdict.PlanLineDisplay.fmt.Given as goal
+
+-- the values so far are written
+abbrev pub invariant-loop-value : goal.invariant-loop-value
+invariant-loop-value g l = IsPlainFormatter l.initial.f → HasWritten g.W.Write.write_str_gives l.initial.f (flat_map value_text (take l.value-index l.value-items)) l.f

@@ -1,7 +1,0 @@
-use Rattle.std.proofs.Common.{◌≡◌, ◌*◌, ◌≤◌, length, take}
-use Rattle.spelling.specs.StepsWritten.{numbers_bytes}
-use Rattle.writing.proofs.step_writer.numbers_length.Given as goal
-
--- the bytes of the numbers so far, four of each at most
-abbrev pub invariant-loop-i : goal.invariant-loop-i
-invariant-loop-i l = (l.total ≡ length (numbers_bytes (take l.i l.numbers))) × (l.total ≤ 4 * l.i)
