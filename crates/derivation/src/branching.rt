@@ -63,6 +63,7 @@ impl Table {
     }
 }
 
+// n is the table's, as in bounding.
 // Whether a row has no coefficient and a right side below 0.
 fn is_contradiction(n: usize, row: &Row) -> bool
     ensures { result ≡ contradiction (row_of n row.now) }

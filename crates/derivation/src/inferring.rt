@@ -30,6 +30,7 @@ fn is_named(n: usize, place: u8) -> bool
     (place as usize) < n || 15 < place
 }
 
+// n is the table's, as in bounding.
 fn are_named(n: usize, d: &Difference) -> bool
     ensures { result ≡ both_named n d.now }
 {

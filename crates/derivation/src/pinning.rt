@@ -97,7 +97,7 @@ impl Table {
         ensures { MatchResult result (λ point. Fixes self.now.size (held_of self.now).rows (places_of places.now) point.items) (λ f. fixed_check self.now.size (held_of self.now).rows (places_of places.now) ≡ Some f) }
     {
         let mut items = [0; 16];
-        // `array::try_from_fn` doesn't tell that the values before a refusal are held.
+        // `array::try_from_fn` does not tell that the values before a refusal are held.
         for i in 0..self.size {
             items[i] = self.held(places, i).ok_or(Cause::NotFixed.at(i))?;
         }

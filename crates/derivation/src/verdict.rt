@@ -8,7 +8,7 @@ use std::fmt;
 
 // It has no equality, since equal numbers may differ past their count.
 // The plan taken and its cost, than which no model is cheaper; no model; or the plan taken so far, if any.
-#[derive(Clone, Copy)]
+#[derive(Clone, Copy, Debug)]
 pub enum Verdict {
     Least(Numbers, i64),
     NoModel,

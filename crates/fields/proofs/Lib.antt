@@ -1,3 +1,2 @@
-pub mod NumberRead
 pub mod Shorter
 pub mod Spreading

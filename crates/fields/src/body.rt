@@ -7,7 +7,7 @@ use crate::bytes::read;
 use crate::maps::Mapped;
 use terms::fault::Fault;
 
-// Sixteen coefficients, of which those past the last variable are 0, and a right side.
+// Sixteen coefficients, as a row has them, of which those past the last variable are 0, and a right side.
 #[derive(Clone, Copy, PartialEq, Eq, Debug)]
 pub struct Body {
     pub numbers: [i32; 16],

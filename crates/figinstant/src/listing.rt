@@ -25,7 +25,7 @@ impl<T: InWords> fmt::Display for Part<'_, T> {
 // Line by line, where a value would print itself as one.
 // The theory, the variables with their costs, the rows as inequalities, and the theory's parts.
 pub fn print_job(rt: &impl Print, file: &JobFile) -> io::Result<()> {
-    // The cases are closed, and each prints something else.
+    // Here and below the cases are closed, and each prints something else.
     let theory = match file.theory {
         FileTheory::Bare => "bare",
         FileTheory::Shared(_) => "shared results",

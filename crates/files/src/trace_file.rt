@@ -19,7 +19,8 @@ use spelling::step_reader::read_step;
 use terms::fault::Fault;
 use theories::theory::Theory;
 
-// n comes beside the proof, which does not tell it.
+// n comes beside the proof, which does not tell it. Here and below job and theory have clauses of their own: `Does` tells of
+// one call, and these may be none or many.
 // Does the step of one record on a proof of n variables; whether it is the end, and the bytes after it, which the end has too.
 fn do_record<'a, T: Theory>(
     proof: &mut Proof<T>,
@@ -32,6 +33,7 @@ fn do_record<'a, T: Theory>(
     ensures theory { proof.new.theory ≡ proof.old.theory }
 {
     let (step, rest) = read_step(n, T::clue_length(), bytes)?;
+    // The end has no step to do, and a step may be refused.
     match step {
         None => Ok((true, rest)),
         Some(step) => {

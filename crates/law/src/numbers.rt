@@ -3,6 +3,7 @@ ghost use Rattle.std.specs.Prelude.{◌≡◌, take};
 ghost use Rattle.law.specs.NumbersView.{values_of};
 
 // At most sixteen numbers: the first `count`. An `ArrayVec` is not `Copy`, as steps are.
+// Equality is not derived, since equal numbers may differ past their count.
 #[derive(Clone, Copy, Debug)]
 pub struct Numbers {
     pub items: [i32; 16],

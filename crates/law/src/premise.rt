@@ -35,7 +35,7 @@ pub type Premises<'a> = Packed<'a, 4>;
 // Places, two bytes each: `u16::from_le_bytes` reads one.
 pub type Places<'a> = Packed<'a, 2>;
 
-// Premises that are summed, and what the sum is divided by.
+// Premises that are summed, and what the sum is divided by. Equality is not derived, as for `Packed`.
 #[derive(Clone, Copy)]
 pub struct Line<'a> {
     pub premises: Premises<'a>,
@@ -43,8 +43,9 @@ pub struct Line<'a> {
 }
 
 // So many lines, one after another: a count of premises, the premises, and a divisor of four bytes.
-// They stand as bytes beside their number, since no two need have one length.
-#[derive(Clone, Copy)]
+// They stand as bytes beside their number, since no two need have one length; equality is not derived, since equal lines may
+// differ in the bytes after them.
+#[derive(Clone, Copy, Debug)]
 pub struct Lines<'a> {
     pub count: usize,
     pub bytes: &'a [u8],

@@ -144,6 +144,7 @@ pub fn read_step(n: usize, width: usize, bytes: &[u8]) -> Result<(Option<Step<'_
     read_record(n, width, bytes)
 }
 
+// n and width stand apart here and in the public call; `Layout` has them together.
 fn read_record(n: usize, width: usize, bytes: &[u8]) -> Reading<'_, Option<Step<'_>>>
     ensures { step_seen result ≡ step_read n width bytes.now }
 {

@@ -69,7 +69,7 @@ impl<'a> Pen<'a> {
         self.put(bytes);
     }
 
-    // Beside places, since at any size a proof does not know that items have it.
+    // Beside places, since at any N a proof does not know that each item has N bytes.
     fn put_premises(&mut self, premises: &[[u8; 4]])
         requires { HasRoom self.old (premises_bytes (map premise_in premises.now)) }
         ensures { Lays self.old (premises_bytes (map premise_in premises.now)) self.new }

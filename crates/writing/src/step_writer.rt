@@ -16,7 +16,7 @@ use law::step::Step;
 use terms::checks::need;
 use terms::fault::{Cause, Fault};
 
-// The length of n numbers by a map: four bytes for each that is not 0.
+// The length of n numbers by a map: four bytes for each that is not 0. That n is at most 16 is asked of a number alone.
 fn mapped_length(n: usize, numbers: &[i32]) -> Result<usize, Fault>
     requires { n ≤ 16 }
     ensures is { result ≡ otherwise (unless (length numbers.now == n) WrongLength 0) (length (mapped_bytes numbers.now)) }
@@ -50,6 +50,7 @@ fn lines_length(lines: Lines<'_>) -> Result<usize, Fault>
 }
 
 // The length of a step, or the end, whose lists suit n variables and clues of so many bytes.
+// Here and below n and width stand apart, as in the public call.
 fn step_length(n: usize, width: usize, step: Option<Step<'_>>) -> Result<usize, Fault>
     ensures { result ≡ otherwise (unless (nat_le n 16 && suits n width (call_in step.entry)) WrongLength 0) (length (spelling (call_in step.entry))) }
 {
@@ -128,7 +129,6 @@ impl Pen<'_> {
     }
 }
 
-// n and width stand apart, as in the public call.
 fn write_record(
     n: usize,
     width: usize,
