@@ -58,7 +58,7 @@ impl Table {
     fn check_drop(&self, place: usize) -> Result<(), Fault>
         ensures { result ≡ answered (first_fault (drop_checks (held_of self.now).rows place)) }
     {
-        let row = self.rows.get(place).ok_or(Cause::NoSuchPlace)?;
+        let row = self.rows.as_slice().get(place).ok_or(Cause::NoSuchPlace)?;
         need(is_contradiction(self.size, row), Cause::NotContradiction, 0)
     }
 }

@@ -67,7 +67,7 @@ impl Table {
         if is_empty(self.size, d) {
             return 0 <= d.most;
         }
-        let row = self.rows.get(place);
+        let row = self.rows.as_slice().get(place);
         row.is_some_and(|row| stands_for(self.size, row, d))
     }
 

@@ -14,6 +14,7 @@ pub mod meeting;
 pub mod opening;
 pub mod pinning;
 pub mod proof;
+mod row_stack;
 pub mod rows;
 pub mod rule;
 pub mod running;

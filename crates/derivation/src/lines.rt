@@ -8,8 +8,8 @@ ghost use Rattle.law.specs.Spelt.{line_of, lines_of, premises_of};
 ghost use Rattle.arrayvec.specs.ArrayVec.{array_vec_len};
 ghost use Rattle.derivation.specs.Sums.{ChainMade, Divided, LineAdded, LineMade, Made, Quotients, divided_checks, no_premise, quotients, sum_of, table_of};
 
+use crate::row_stack::RowStack;
 use crate::sums::Sums;
-use arrayvec::ArrayVec;
 use law::premise::{Line, Lines, Premise, Premises};
 use terms::checks::{is_right, is_small, need, need_none};
 use terms::fault::{Cause, Fault};
@@ -175,7 +175,7 @@ impl Rows<'_> {
 // ---- the rows of a chain
 // A table to which a chain's lines add their rows. These come off again on every way out.
 struct Chain<'a> {
-    rows: &'a mut ArrayVec<Row, 512>,
+    rows: &'a mut RowStack,
     size: usize,
     saved: usize,
     ghost narrow: { size ≤ 16 },
@@ -237,11 +237,7 @@ impl Chain<'_> {
 }
 
 // The row that the last line makes; the table is as it was.
-pub(crate) fn chain_row(
-    rows: &mut ArrayVec<Row, 512>,
-    size: usize,
-    lines: Lines<'_>,
-) -> Result<Row, Fault>
+pub(crate) fn chain_row(rows: &mut RowStack, size: usize, lines: Lines<'_>) -> Result<Row, Fault>
     requires narrow { size ≤ 16 }
     requires some { 0 < lines.count }
     requires room { array_vec_len rows.old + lines.count ≤ 512 }

@@ -20,11 +20,9 @@ impl Table {
         requires { length plan.now ≤ self.now.size }
         ensures { result ≡ answered (first_unless RowMissed 0 (map (meets plan.now) (fixed_of self.now).given)) }
     {
+        let given = &self.rows.as_slice()[..self.given];
         need_none(
-            self.rows
-                .iter()
-                .take(self.given)
-                .position(|row| !row.is_met(plan)),
+            given.iter().position(|row| !row.is_met(plan)),
             Cause::RowMissed,
         )
     }
@@ -39,7 +37,8 @@ impl State {
             .is_none_or(|best| self.cost(plan) < self.cost(&best))
     }
 
-    // A plan of the job's variables, within the limits, that meets the job's rows.
+    // A plan of the job's variables, within the limits, that meets the job's rows. Inlined, or the loop over a row is not unrolled.
+    #[inline]
     pub(crate) fn check_plan(&self, values: &[i32]) -> Result<Coefficients, Fault>
         ensures { MatchResult result (λ plan. Planned (job_in self.now) values.now plan.items) (λ f. first_fault (plan_checks (job_in self.now) values.now) ≡ Some f) }
     {

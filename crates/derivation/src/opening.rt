@@ -13,6 +13,7 @@ ghost use Rattle.derivation.specs.VerdictView.{looked_at, verdict_of};
 
 use crate::job::Job;
 use crate::proof::Proof;
+use crate::row_stack::RowStack;
 use crate::state::State;
 use crate::table::Table;
 use crate::verdict::Verdict;
@@ -91,13 +92,10 @@ fn begin(size: usize, given: &[Row]) -> Table
     ensures held { held_of result ≡ record { rows = map (row_of size) given.now; heights = []; mark = true } }
     ensures fixed { fixed_of result ≡ record { size = size; given = map (row_of size) given.now } }
 {
-    let Ok(rows) = ArrayVec::try_from(given) else {
-        unreachable()
-    };
     Table {
         size,
         given: given.len(),
-        rows,
+        rows: RowStack::new(given),
         waiting: Some(ArrayVec::new()),
     }
 }

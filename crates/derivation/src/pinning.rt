@@ -109,7 +109,7 @@ impl Table {
         ensures { result ≡ every (map (meets (take self.now.size point.now.items)) (held_of self.now).rows) }
     {
         let point = &point.items[..self.size];
-        self.rows.iter().all(|row| row.is_met(point))
+        self.rows.as_slice().iter().all(|row| row.is_met(point))
     }
 }
 

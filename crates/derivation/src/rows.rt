@@ -40,7 +40,7 @@ impl Table {
         requires { place < length (held_of self.now).rows }
         ensures { row_of self.now.size result ≡ row_at (held_of self.now).rows place }
     {
-        self.rows[place]
+        self.rows.as_slice()[place]
     }
 
     // A row joins the table.
@@ -82,7 +82,7 @@ impl Table {
             self.rows.truncate(self.given);
             return;
         };
-        let Some(opposite) = self.rows[height].opposite() else {
+        let Some(opposite) = self.rows.as_slice()[height].opposite() else {
             unreachable()
         };
         self.rows.truncate(height);

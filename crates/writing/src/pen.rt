@@ -2,9 +2,11 @@
 ghost use Rattle.std.specs.Prelude.{◌≡◌, ◌≤◌, true, map, length};
 ghost use Rattle.writing.specs.Laid.{HasRoom, Lays};
 ghost use Rattle.terms.specs.Bytes.{nat16};
+ghost use Rattle.law.specs.NumbersView.{values_of};
 ghost use Rattle.law.specs.Spelt.{line_of, lines_of, premise_in};
 ghost use Rattle.spelling.specs.StepsWritten.{line_bytes, lines_bytes, lines_counted, map_of, mapped_bytes, number_bytes, numbers_bytes, places_bytes, premises_bytes};
 
+use law::numbers::Numbers;
 use law::premise::{Line, Lines};
 
 // The buffer, and the place of the next byte.
@@ -27,9 +29,12 @@ impl<'a> Pen<'a> {
         requires { HasRoom self.old bytes.now }
         ensures { Lays self.old bytes.now self.new }
     {
-        let end = self.at + bytes.len();
-        self.out[self.at..end].copy_from_slice(bytes);
-        self.at = end;
+        // The copy is a call, even of no bytes.
+        if !bytes.is_empty() {
+            let end = self.at + bytes.len();
+            self.out[self.at..end].copy_from_slice(bytes);
+            self.at = end;
+        }
     }
 
     // A number that is 0 has no bytes.
@@ -52,11 +57,12 @@ impl<'a> Pen<'a> {
     }
 
     // The map of the numbers, and those that are not 0.
-    pub(crate) fn put_mapped(&mut self, numbers: &[i32])
-        requires few { length numbers.now ≤ 16 }
-        requires room { HasRoom self.old (mapped_bytes numbers.now) }
-        ensures { Lays self.old (mapped_bytes numbers.now) self.new }
+    pub(crate) fn put_mapped(&mut self, numbers: Numbers)
+        requires few { length (values_of numbers) ≤ 16 }
+        requires room { HasRoom self.old (mapped_bytes (values_of numbers)) }
+        ensures { Lays self.old (mapped_bytes (values_of numbers)) self.new }
     {
+        let numbers = numbers.values();
         self.put(&map_of(numbers).to_le_bytes());
         self.put_numbers(numbers);
     }

@@ -1,4 +1,4 @@
-use Rattle.std.proofs.Common.{◌<◌, [], ◌∷◌, ◌++◌, length, take, ap, sym, ◌∙◌, arith}
+use Rattle.std.proofs.Common.{◌<◌, [], ◌∷◌, ◌++◌, length, take, ap, sym, ◌∙◌, arith, rules}
 use Rattle.std.proofs.lemmas.List.{length-take-le, take_more}
 use Rattle.derivation.proofs.RulesAsked.{asked, asked_at, asked_few, asked_long, asked_there, rule_asked}
 use Rattle.derivation.proofs.asking.read_rule.Goals as goal
@@ -24,4 +24,4 @@ loop-index-preserved g c =
 pub returns : goal.returns
 returns g c =
     let o = (g.T.Theory.means c.args.theory.now).rule c.args.clue.now in
-    rule_asked o c.in_ok-count.count c.loop-index.index c.in_ok-conclusion.conclusion c.loop-index.premises.items c.in_ok-count.ensures c.in_ok-conclusion.ensures (omega (arith, c.loop-index-test.false)) c.loop-index.invariant
+    rule_asked o c.in_ok-count.count c.loop-index.index _ c.loop-index.premises.items c.in_ok-count.ensures (search (rules, c.in_ok-conclusion.ensures)) (omega (arith, c.loop-index-test.false)) c.loop-index.invariant

@@ -12,4 +12,4 @@ pub returns : goal.returns
 returns c =
     let e : c.position.result ≡ position (λ n. not (within million n)) c.args.numbers.now =
     position_from_yields_List (λ n. not (within million n)) _ _ c.position.result c.position.ensures.ran (YieldsList-from_slice c.args.numbers.now c.iter.ensures.rest) (λ x b q k. search (rules, tests)) in
-    c.need_none.ensures ∙ ap answered (ap (option_map (fault OutOfRange)) e ∙ first_at (within million) OutOfRange c.args.numbers.now)
+    c.need_none.ensures ∙ ap answered (ap (option_map (fault OutOfRange)) (search (rules, tests, e)) ∙ first_at (within million) OutOfRange c.args.numbers.now)

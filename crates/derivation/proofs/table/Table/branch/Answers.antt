@@ -34,7 +34,7 @@ push-requires c =
     (omega arith, omega (arith, f, l, rows_long o, c.requires.room))
 
 pub push-requires-2 : goal.push-requires-2
-push-requires-2 c = (omega arith, omega (arith, rows_long c.args.self.now, c.requires.room))
+push-requires-2 c = omega (arith, rows_long c.args.self.now, c.requires.room)
 
 pub invariant_of-self : goal.invariant_of-self
 invariant_of-self c =

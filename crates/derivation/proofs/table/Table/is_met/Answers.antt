@@ -16,5 +16,5 @@ pub returns : goal.returns
 returns c =
     let o = c.args.self.now in let x = take o.size c.args.point.now.items in let rows = o.rows.items in
     let test : Stored → Bool = λ r. meets x (whole r) in
-    let e : c.all.result ≡ list_all test rows = all_from_yields_List test _ _ c.all.result c.all.ensures.ran (YieldsList-from_slice rows (c.iter.ensures.rest ∙ c.deref.ensures.0)) (λ x b q k. search (rules, tests)) in
+    let e : c.all.result ≡ list_all test rows = all_from_yields_List test _ _ c.all.result c.all.ensures.ran (YieldsList-from_slice rows (c.iter.ensures.rest ∙ c.as_slice.ensures.value)) (λ x b q k. search (rules, tests)) in
     e ∙ every-list_all test rows ∙ ap every (rows_met o.size x rows (omega (arith, length-take-le o.size c.args.point.now.items (omega (arith, o.narrow, c.args.point.now.long)))))

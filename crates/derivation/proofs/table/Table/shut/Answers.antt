@@ -19,9 +19,9 @@ read_at o rows h r is e = is ∙ ap (λ rs. get_or rs h r) e
 
 pub invariant_of-self-2 : goal.invariant_of-self-2
 invariant_of-self-2 c =
-    let o = c.args.self.now in let h = c.in-Some-pop.height in let r = c.index-deref-height.result in let s = c.in-Some-opposite.opposite in let older = reverse c.pop.new.self.items in
+    let o = c.args.self.now in let h = c.in-Some-pop.height in let r = c.index-as_slice-height.result in let s = c.in-Some-opposite.opposite in let older = reverse c.pop.new.self.items in
     let waits = newest o c.in-Some.waiting c.pop.new.self h c.in-Some.is c.in-Some-pop.ensures.items in
-    let there = read_at o c.deref.result.now h r c.index-deref-height.is c.deref.ensures.0 in
+    let there = read_at o c.as_slice.result.now h r c.index-as_slice-height.is c.as_slice.ensures.value in
     let left = c.push.ensures.items ∙ ap (λ rs. rs ++ s ∷ []) c.truncate-2.ensures.items in
     record {
       narrow = o.narrow;
@@ -30,9 +30,9 @@ invariant_of-self-2 c =
 
 pub returns : goal.returns
 returns c =
-    let o = c.args.self.now in let h = c.in-Some-pop.height in let r = c.index-deref-height.result in let s = c.in-Some-opposite.opposite in let older = reverse c.pop.new.self.items in
+    let o = c.args.self.now in let h = c.in-Some-pop.height in let r = c.index-as_slice-height.result in let s = c.in-Some-opposite.opposite in let older = reverse c.pop.new.self.items in
     let waits = newest o c.in-Some.waiting c.pop.new.self h c.in-Some.is c.in-Some-pop.ensures.items in
-    let there = read_at o c.deref.result.now h r c.index-deref-height.is c.deref.ensures.0 in
+    let there = read_at o c.as_slice.result.now h r c.index-as_slice-height.is c.as_slice.ensures.value in
     let left = c.push.ensures.items ∙ ap (λ rs. rs ++ s ∷ []) c.truncate-2.ensures.items in
     let rows = map (row_of o.size) o.rows.items in let given = map (row_of o.size) (take o.given o.rows.items) in
     record {

@@ -1,36 +1,26 @@
-use Rattle.std.proofs.Common.{⊎_elim, inl, inr, List, suc, ◌≡◌, ◌+◌, ◌*◌, ◌≤◌, length, ◌∷◌, ℤ, ◌+ℤ◌, nat_abs, sym, ap, ap₂, ◌∙◌, subst, arith, w64, to_z, SFits, rules}
-use Rattle.std.specs.Iterator.Adapters.{zip_first, zip_second}
-use Rattle.std.specs.Slice.Iter.{iter_rest}
+use Rattle.std.proofs.Common.{◌≡◌, ◌-◌, ◌+◌, ◌*◌, ◌≤◌, length, min, take, get_or, drop, pos, ◌+ℤ◌, nat_abs, sym, ap, ◌∙◌, arith, w32, w64, SFits, to_z, rules}
 use Rattle.std.proofs.lemmas.Int.{ints}
+use Rattle.std.proofs.lemmas.List.{length-take-le}
 use Rattle.terms.specs.Rows.{dot}
-use Rattle.terms.proofs.SmallLists.{Small}
-use Rattle.terms.proofs.Sums.{dot_over, both_read, next_is, next_small}
+use Rattle.terms.proofs.Sums.{dot_more, dot_past, dot_within, both_read, next_is, next_small}
 use Rattle.terms.proofs.row.Coefficients.dot.Goals as goal
 
-small_rest : (c : ℤ) (cs ds : List ℤ) → ds ≡ c ∷ cs → Small ds → Small cs
-small_rest c cs ds e h k = (subst Small e h) (suc k)
-
-pub loop-coefficient-preserved : goal.loop-coefficient-preserved
-loop-coefficient-preserved c =
-    let s = c.in-Some.ensures.steps in
-    let i = c.loop-coefficient.invariant in
-    let a = iter_rest (zip_first c.next.new.self) in let b = iter_rest (zip_second c.next.new.self) in
-    let v = c.term-sum.ensures.value ∙ both_read c.in-Some.coefficient.now c.in-Some.value.now (search rules) (search rules) in
+pub loop-i-preserved : goal.loop-i-preserved
+loop-i-preserved c =
+    let cs = c.args.self.now.items in let k = c.min.result in let xs = take k c.args.plan.now in let i = c.loop-i.i in
+    let few = length-take-le k c.args.plan.now (omega arith) in
     let f : SFits w64 c.term-sum.result = search rules in
-    let m = ap₂ dot s.0 s.1 ∙ ap (λ p. p +ℤ dot a b) (sym v) in
-    let l = ap length s.0 in
-    let small : nat_abs (to_z w64 c.loop-coefficient.sum-bits) + (length a + 1) * 2147483648000000 ≤ 34359738368000000 = omega (arith, i.3, l) in
-    let total = dot c.args.self.now.items c.args.plan.now in (
-      i.0,
-      i.1,
-      next_is total _ (dot a b) c.term-sum.result (length a) i.2 small f c.term-sum.ensures.bound m,
-      next_small total _ (dot a b) c.term-sum.result (length a) i.2 small f c.term-sum.ensures.bound,
-      small_rest c.in-Some.coefficient.now a _ s.0 i.4,
+    let v = c.term-sum.ensures.value ∙ both_read (get_or cs i (pos 0)) (get_or xs i (pos 0)) (search rules) (search rules) in
+    let m = dot_more cs xs i (omega (arith, few)) (omega arith) ∙ ap (λ p. p +ℤ dot (drop (i + 1) cs) (drop (i + 1) xs)) (sym v) in
+    let total = dot cs xs in let here = dot (drop i cs) (drop i xs) in let rest = dot (drop (i + 1) cs) (drop (i + 1) xs) in (
+      next_is total here rest c.term-sum.result (15 - i) c.loop-i.invariant.0 (omega (arith, few, c.loop-i.invariant.1)) f c.term-sum.ensures.bound m,
+      (let s = next_small total here rest c.term-sum.result (15 - i) c.loop-i.invariant.0 (omega (arith, few, c.loop-i.invariant.1)) f c.term-sum.ensures.bound in omega (arith, few, s)),
     )
 
 pub returns : goal.returns
 returns c =
-    let i = c.loop-coefficient.invariant in
-    let p = dot_over (iter_rest (zip_first c.loop-coefficient.coefficient-iterator)) (iter_rest (zip_second c.loop-coefficient.coefficient-iterator)) (⊎_elim (λ e. inl e.1.0) (λ e. inr e.1.0) c.in-None.ensures.steps) in
-    let e = i.2 in
+    let cs = c.args.self.now.items in let xs = c.args.plan.now in let k = c.min.result in
+    let w = dot_within k cs xs (omega (arith, c.args.self.now.long)) in
+    let p = dot_past cs (take k xs) c.loop-i.i (omega (arith, c.args.self.now.long)) in
+    let e = c.loop-i.invariant.0 in
     omega (arith, ints)
